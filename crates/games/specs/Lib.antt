@@ -1,0 +1,12 @@
+pub mod Form
+pub mod Sides
+pub mod Numbered
+pub mod Sums
+pub mod Order
+pub mod Play
+pub mod Outcomes
+pub mod Listing
+pub mod Canon
+pub mod Tests
+pub mod Text
+pub mod Laws
