@@ -1,0 +1,4 @@
+pub mod Words
+pub mod Places
+pub mod Counts
+pub mod Digits
