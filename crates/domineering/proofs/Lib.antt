@@ -1,0 +1,4 @@
+pub mod Size
+pub mod Masks
+pub mod Moves
+pub mod Lawful

@@ -1,0 +1,2 @@
+pub mod Domineering
+pub mod Making

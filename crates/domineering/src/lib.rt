@@ -1,0 +1,2 @@
+// Domineering: dominoes on a board of cells, upright for Left and flat for Right.
+pub mod board;
