@@ -1,0 +1,5 @@
+pub mod Joined
+pub mod Hackenbush
+pub mod Floods
+pub mod Pictures
+pub mod Laws
