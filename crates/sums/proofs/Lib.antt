@@ -1,0 +1,3 @@
+pub mod Parts
+pub mod Values
+pub mod Moves
