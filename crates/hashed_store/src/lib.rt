@@ -1,0 +1,2 @@
+// A store that finds its rows by hash chains.
+pub mod table;
