@@ -1,0 +1,3 @@
+pub mod Words
+pub mod Sides
+pub mod Next

@@ -1,0 +1,9 @@
+pub mod Arranged
+pub mod Forms
+pub mod Invariants
+pub mod Steps
+pub mod Rows
+pub mod Ranking
+pub mod Views
+pub mod Walks
+pub mod Seals
