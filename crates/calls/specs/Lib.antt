@@ -1,0 +1,15 @@
+pub mod Rows
+pub mod Answers
+pub mod Sealing
+pub mod Entering
+pub mod Positions
+pub mod Texts
+pub mod Reading
+pub mod Asking
+pub mod Sound
+pub mod Laws
+pub mod Outcomes
+pub mod Memory
+pub mod Runs
+pub mod RunLaws
+pub mod WorkedRun

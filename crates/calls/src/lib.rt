@@ -1,0 +1,3 @@
+// What the calls on a dictionary mean: definitions, and the theorems on them. There is no other code here.
+pub mod laws;
+pub mod runs;
