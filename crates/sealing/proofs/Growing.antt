@@ -12,7 +12,7 @@ use Rattle.games.specs.Canon.{Canonical}
 use Rattle.games.specs.Tests.{as_good}
 use Rattle.games.proofs.Order.{≈_sym}
 use Rattle.games.proofs.Sides.{good_refl}
-use Rattle.games.proofs.Tests.{is_canonical}
+use Rattle.games.proofs.Tests.{is_canonical_lem}
 use Rattle.nodesets.specs.Pairs.{Sets, Within}
 use Rattle.sealing.specs.Forms.{none, node, game}
 use Rattle.sealing.specs.Invariants.{Lower, Ranked, AllCanonical, Apart}
@@ -46,7 +46,7 @@ module _ (os : List Sets) (o : Sets) where
     | inl l ↦ rw (node_old os o i l) (all i l)
     | inr l ↦
         let e : i ≡ length os = let m = more in omega arith in
-        rw (e, node_new os o) (true_T _ (is_canonical (game os o) g))
+        rw (e, node_new os o) (true_T _ (is_canonical_lem (game os o) g))
   ]
 
   pub apart_more : Apart os → ((k : ℕ) → k < length os → ¬ (game os o ≈ node os k)) → Apart (os ++ (o ∷ []))

@@ -2,8 +2,9 @@
 -- Assumes nothing.
 use Rattle.std.proofs.Common.{◌≡◌, ℕ, ◌<◌, ◌⊎◌, List, [], ◌∷◌, Ordering, Less, Equal, Greater, sym, refl, ap, ◌∙◌, subst, inl, inr, arith}
 use Rattle.std.specs.Ordering.{ordering_then, MatchOrdering, nat_cmp}
-use Rattle.std.specs.Cmp.{nat_cmp_total, ranks}
-use Rattle.std.specs.Cmp.Lexicographic.{Lex, lexical, slice_cmp}
+use Rattle.std.specs.Cmp.{ranks}
+use Rattle.std.specs.Cmp.Lexicographic.{slice_cmp}
+use Rattle.std.proofs.lemmas.Bool.Decides.{nat_tests}
 use Rattle.games.specs.Numbered.{Lists}
 use Rattle.stores.specs.Order.{number_order, list_order, row_order}
 use Rattle.stores.proofs.Lowest.{both_same}
@@ -15,11 +16,8 @@ list_order_is (x ∷ xs) [] = refl
 list_order_is (x ∷ xs) (y ∷ ys) = ap (ordering_then (number_order x y)) (list_order_is xs ys)
 
 -- what `cmp` gives on two slices
-pub list_compared : (xs ys : List ℕ) (r : Ordering) → Lex (λ (a b : ℕ) (k : Ordering). MatchOrdering k (a < b) (a ≡ b) (b < a)) xs ys r → r ≡ list_order xs ys
-list_compared xs ys r h = (lexical nat_cmp_total).says xs ys r h ∙ sym (list_order_is xs ys)
-
-pub number_compared : (x y : ℕ) (r : Ordering) → MatchOrdering r (x < y) (x ≡ y) (y < x) → r ≡ number_order x y
-number_compared x y r h = nat_cmp_total.says x y r h
+pub list_compared : (xs ys : List ℕ) (r : Ordering) → r ≡ slice_cmp nat_cmp xs ys → r ≡ list_order xs ys
+list_compared xs ys r h = h ∙ sym (list_order_is xs ys)
 
 -- the three answers differ
 pub not_less : (o : Ordering) → o ≡ Less → (o ≡ Equal) ⊎ (o ≡ Greater) → ⊥
@@ -44,7 +42,7 @@ pub number_less : (x y : ℕ) → number_order x y ≡ Less → x < y
 number_less x y e = subst (λ r. MatchOrdering r (x < y) (x ≡ y) (y < x)) e (ranks x y)
 
 number_itself : (x : ℕ) → number_order x x ≡ Equal
-number_itself x = sym (number_compared x x Equal refl)
+number_itself x = grind (arith, nat_tests)
 
 list_equal : (xs ys : List ℕ) → list_order xs ys ≡ Equal → xs ≡ ys
 list_equal [] [] e = refl

@@ -4,8 +4,8 @@ use lib.Count.{ones-le}
 use Rattle.bits.proofs.Counts.{ones_places}
 use Rattle.bits.proofs.count_bits.Goals as goal
 
-pub overflow-cast-result : goal.overflow-cast-result
-overflow-cast-result c = omega (arith, ones-le 64 c.args.word)
+pub overflow_cast-result : goal.overflow_cast-result
+overflow_cast-result c = omega (arith, ones-le 64 c.args.word)
 
 pub returns : goal.returns
 returns c = ones_places 64 c.args.word (omega arith)

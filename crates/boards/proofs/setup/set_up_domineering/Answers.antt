@@ -5,13 +5,13 @@ use Rattle.boards.proofs.Codes.{squares_read, rows_read}
 use Rattle.boards.proofs.Tables.{rows_refused, board_set, board_refused}
 use Rattle.boards.proofs.setup.set_up_domineering.Goals as goal
 
-pub returns-in-default : goal.returns-in-default
-returns-in-default c = record { set = λ rows e. (rows_refused c.args.items.now rows e c.in-default.ensures, refl); squares = squares_read; rowwise = rows_read }
+pub returns-in_default : goal.returns-in_default
+returns-in_default c = record { set = λ rows e. (rows_refused c.args.items.now rows e c.in_default.ensures, refl); squares = squares_read; rowwise = rows_read }
 
-pub returns-in-err-board : goal.returns-in-err-board
-returns-in-err-board c =
-    let p = err_from_is_err_and c.from-residual.result c.from-residual.ensures.1 in
-    let h = c.in-err-board.ensures in
+pub returns-in_err-board : goal.returns-in_err-board
+returns-in_err-board c =
+    let p = err_from_is_err_and c.from_residual.result c.from_residual.ensures.1 in
+    let h = c.in_err-board.ensures in
     record {
       set = λ rows e. rw (p.1, p.2) (board_refused c.args.items.now rows e c.in-Some.read c.in-Some.ensures h.0, h.1);
       squares = squares_read;
@@ -20,7 +20,7 @@ returns-in-err-board c =
 
 pub returns : goal.returns
 returns c =
-    let h = c.in-ok-board.ensures in
+    let h = c.in_ok-board.ensures in
     record {
       set = λ rows e. board_set c.args.items.now rows e c.in-Some.read c.in-Some.ensures _ h.0 h.1;
       squares = squares_read;

@@ -3,5 +3,5 @@ use Rattle.std.proofs.Common.{arith, rules}
 use Rattle.calculator.proofs.Numbers.{most_64}
 use Rattle.calculator.proofs.reply.put_move.Goals as goal
 
-pub put-number-requires : goal.put-number-requires
-put-number-requires c = let m = most_64 c.in-Some.index (search rules) in omega (arith, c.requires)
+pub put_number-requires : goal.put_number-requires
+put_number-requires c = let m = most_64 c.in-Some.index (search rules) in omega (arith, c.requires)

@@ -17,21 +17,21 @@ returns-then-number-lt10 t c =
       written = over_one c.args.out.now c.args.place (48 + c.args.number) (omega (arith, c.requires, ap length e)) ∙ ap (over c.args.out.now c.args.place) (sym e);
     }
 
-pub put-number-end-requires : goal.put-number-end-requires
-put-number-end-requires t c = let e = numeral_length c.args.number c.if-number-lt10.false in (search rules, omega (arith, c.requires, e))
+pub put_number-end-requires : goal.put_number-end-requires
+put_number-end-requires t c = let e = numeral_length c.args.number c.if-number-lt10.false in (search rules, omega (arith, c.requires, e))
 
 pub bounds-out-end : goal.bounds-out-end
 bounds-out-end t c = let e = numeral_length c.args.number c.if-number-lt10.false in search rules
 
-pub overflow-add-result-2 : goal.overflow-add-result-2
-overflow-add-result-2 t c = let e = numeral_length c.args.number c.if-number-lt10.false in search rules
+pub overflow_add-result-2 : goal.overflow_add-result-2
+overflow_add-result-2 t c = let e = numeral_length c.args.number c.if-number-lt10.false in search rules
 
 pub returns : goal.returns
 returns t c =
     let e = numeral_length c.args.number c.if-number-lt10.false in
-    let b = c.put-number-end.ensures.behind in
+    let b = c.put_number-end.ensures.behind in
     record {
       behind = omega arith;
-      written = then_byte c.args.out.now c.args.place (numeral (c.args.number / 10)) c.put-number-end.new.out c.put-number-end.result c.put-number-end.ensures.written c.put-number-end.ensures.behind (48 + c.args.number % 10) (omega (arith, c.requires, e))
+      written = then_byte c.args.out.now c.args.place (numeral (c.args.number / 10)) c.put_number-end.new.out c.put_number-end.result c.put_number-end.ensures.written c.put_number-end.ensures.behind (48 + c.args.number % 10) (omega (arith, c.requires, e))
           ∙ ap (over c.args.out.now c.args.place) (sym (numeral_step c.args.number c.if-number-lt10.false));
     }

@@ -7,16 +7,16 @@ use Rattle.calculator.proofs.Numbers.{most_16}
 use Rattle.calculator.proofs.Parts.{two_parts}
 use Rattle.calculator.proofs.writing.put_head.Goals as goal
 
-pub put-number-number-requires : goal.put-number-number-requires
-put-number-number-requires c = let m = most_16 c.args.node (search rules) in omega (arith, c.requires)
+pub put_number-number-requires : goal.put_number-number-requires
+put_number-number-requires c = let m = most_16 c.args.node (search rules) in omega (arith, c.requires)
 
-pub put-bytes-requires : goal.put-bytes-requires
-put-bytes-requires c = let m = most_16 c.args.node (search rules) in let b = c.put-number-number.ensures.behind in search rules
+pub put_bytes-requires : goal.put_bytes-requires
+put_bytes-requires c = let m = most_16 c.args.node (search rules) in let b = c.put_number-number.ensures.behind in search rules
 
 pub returns : goal.returns
 returns c =
     let m = most_16 c.args.node (search rules) in
-    let (p, q) = two_parts c.args.out.now (numeral c.args.node) (32 ∷ c.letter.result ∷ 32 ∷ []) c.put-number-number.new.out c.put-bytes.new.out c.put-number-number.result c.put-bytes.result (omega (arith, c.requires))
-    c.put-number-number.ensures.written c.put-number-number.ensures.behind c.put-bytes.ensures.written c.put-bytes.ensures.behind in
+    let (p, q) = two_parts c.args.out.now (numeral c.args.node) (32 ∷ c.letter.result ∷ 32 ∷ []) c.put_number-number.new.out c.put_bytes.new.out c.put_number-number.result c.put_bytes.result (omega (arith, c.requires))
+    c.put_number-number.ensures.written c.put_number-number.ensures.behind c.put_bytes.ensures.written c.put_bytes.ensures.behind in
     let same : numeral c.args.node ++ (32 ∷ c.letter.result ∷ 32 ∷ []) ≡ numeral c.args.node ++ (32 ∷ letter c.args.outcome ∷ 32 ∷ []) = ap (λ z. numeral c.args.node ++ (32 ∷ z ∷ 32 ∷ [])) c.letter.ensures in
     record { behind = p ∙ (zero-add _ ∙ ap length same); written = q ∙ ap (over c.args.out.now 0) same }

@@ -9,11 +9,11 @@ use Rattle.dictionary.proofs.print.+spend_spend_options.Given as goal
 abbrev pub decreases-spend : goal.decreases-spend
 decreases-spend g l = 2 * l.node + 1
 
-abbrev pub decreases-spend-options : goal.decreases-spend-options
-decreases-spend-options g l = 2 * l.node
+abbrev pub decreases-spend_options : goal.decreases-spend_options
+decreases-spend_options g l = 2 * l.node
 
-abbrev pub invariant-spend-options-loop-index : goal.invariant-spend-options-loop-index
-invariant-spend-options-loop-index g l =
+abbrev pub invariant-spend_options-loop-index : goal.invariant-spend_options-loop-index
+invariant-spend_options-loop-index g l =
     let rows = g.S.Store.rows l.store in
     let paid = length (written (node rows) (take l.index (list_of l.side (row_at rows l.node)))) in
     (paid ≤ l.initial.left) × (l.left ≡ l.initial.left - paid)

@@ -7,10 +7,10 @@ use Rattle.dictionary.proofs.print.+write_write_options.Given as goal
 abbrev pub decreases-write : goal.decreases-write
 decreases-write g l = 2 * l.node + 1
 
-abbrev pub decreases-write-options : goal.decreases-write-options
-decreases-write-options g l = 2 * l.node
+abbrev pub decreases-write_options : goal.decreases-write_options
+decreases-write_options g l = 2 * l.node
 
-abbrev pub invariant-write-options-loop-index : goal.invariant-write-options-loop-index
-invariant-write-options-loop-index g l =
+abbrev pub invariant-write_options-loop-index : goal.invariant-write_options-loop-index
+invariant-write_options-loop-index g l =
     let text = before (g.S.Store.rows l.store) l.side l.node l.index in
     (l.end ≡ l.initial.place + length text) × (l.out ≡ over l.initial.out l.initial.place text)

@@ -8,8 +8,8 @@ use Rattle.dictionary.proofs.seal.row.Goals as goal
 
 pub returns : goal.returns
 returns c =
-    let a = c.in-ok-get.ensures.lookup.0 in
-    let b = c.in-ok-get-2.ensures.lookup.0 in
+    let a = c.in_ok-get.ensures.lookup.0 in
+    let b = c.in_ok-get-2.ensures.lookup.0 in
     let m : c.list-lefts.result ≤ 16 = let h = a.1 in let k = c.list-lefts.auto.buffer in omega arith in
     let n : c.list-rights.result ≤ 16 = let h = b.1 in let k = c.list-rights.auto.buffer in omega arith in
     c.new.ensures

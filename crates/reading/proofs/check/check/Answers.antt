@@ -5,8 +5,8 @@ use Rattle.reading.proofs.check.check.Goals as goal
 pub loop-place-init : goal.loop-place-init
 loop-place-init c = takes_none _ _ c.begin-reader.ensures
 
-pub returns-in-default : goal.returns-in-default
-returns-in-default c = takes_no_mark _ _ _ c.loop-place.invariant c.loop-place-test.true c.in-default.ensures
+pub returns-in_default : goal.returns-in_default
+returns-in_default c = takes_no_mark _ _ _ c.loop-place.invariant c.loop-place-test.true c.in_default.ensures
 
 pub returns-in-Wrong : goal.returns-in-Wrong
 returns-in-Wrong c = takes_wrong _ _ _ c.loop-place.invariant c.loop-place-test.true c.in-Some.mark c.in-Some.ensures (c.in-Wrong.ensures _ c.loop-place.invariant.stands)
@@ -19,8 +19,8 @@ returns-in-Deep c =
 pub loop-place-preserved : goal.loop-place-preserved
 loop-place-preserved c = takes_on _ _ _ c.loop-place.invariant c.loop-place-test.true c.in-Some.mark c.in-Some.ensures _ (c.in-On.ensures _ c.loop-place.invariant.stands)
 
-pub returns-then-is-done : goal.returns-then-is-done
-returns-then-is-done c = takes_all _ _ _ c.loop-place.invariant c.loop-place-test.false (c.if-is-done.ensures _ c.loop-place.invariant.stands)
+pub returns-then-is_done : goal.returns-then-is_done
+returns-then-is_done c = takes_all _ _ _ c.loop-place.invariant c.loop-place-test.false (c.if-is_done.ensures _ c.loop-place.invariant.stands)
 
-pub returns-else-is-done : goal.returns-else-is-done
-returns-else-is-done c = takes_early _ _ _ c.loop-place.invariant c.loop-place-test.false (c.if-is-done.ensures _ c.loop-place.invariant.stands)
+pub returns-else-is_done : goal.returns-else-is_done
+returns-else-is_done c = takes_early _ _ _ c.loop-place.invariant c.loop-place-test.false (c.if-is_done.ensures _ c.loop-place.invariant.stands)

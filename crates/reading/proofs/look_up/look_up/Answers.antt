@@ -11,46 +11,46 @@ use Rattle.reading.proofs.Upto.{There, there, some_mark, some_room, some_bar, so
 use Rattle.reading.proofs.look_up.look_up.Goals as goal
 use Rattle.reading.proofs.look_up.look_up.Goals.{in-Open, in-Bar, in-Close+in-Some-close, in-Comma}
 
-pub returns-in-err-check : goal.returns-in-err-check
-returns-in-err-check g c =
+pub returns-in_err-check : goal.returns-in_err-check
+returns-in_err-check g c =
     let d = c.args.frozen.now.dictionary in
-    let e : c.from-residual.result ≡ Err (Text c.in-err-check.field-0.0) = search rules in
-    let x = look_faulty c.args.text.now (g.S.Store.rows d.store) c.from-residual.result c.in-err-check.field-0.0 e c.in-err-check.ensures in
+    let e : c.from_residual.result ≡ Err (Text c.in_err-check.field-0.0) = search rules in
+    let x = look_faulty c.args.text.now (g.S.Store.rows d.store) c.from_residual.result c.in_err-check.field-0.0 e c.in_err-check.ensures in
     record {
       looks = λ h. x;
-      nodes = λ h. finds_nodes _ _ c.from-residual.result (kept_sound _ d.tables _ h (g.met.S.Store.lawful d.store)) x;
+      nodes = λ h. finds_nodes _ _ c.from_residual.result (kept_sound _ d.tables _ h (g.met.S.Store.lawful d.store)) x;
     }
 
 pub loop-place-init : goal.loop-place-init
 loop-place-init g c f w = begins f _ _ _ _ c.none-frames.ensures
 
 pub unreachable-requires : goal.unreachable-requires
-unreachable-requires g c = let (f, w) = c.in-ok-check.ensures in some_mark f _ w _ c.loop-place-test.true c.in-default.ensures
+unreachable-requires g c = let (f, w) = c.in_ok-check.ensures in some_mark f _ w _ c.loop-place-test.true c.in_default.ensures
 
 pub open-requires : goal.open-requires
 open-requires g c =
-    let (f, w) = c.in-ok-check.ensures in
+    let (f, w) = c.in_ok-check.ensures in
     let x = some_room f c.loop-place.place (subst (λ m. There f c.loop-place.place (meant m)) c.in-Open.is (there f _ w _ c.loop-place-test.true _ c.in-Some.ensures)) in
     let n = (c.loop-place.invariant f w).count in
     omega arith
 
 pub bar-requires : goal.bar-requires
 bar-requires g c =
-    let (f, w) = c.in-ok-check.ensures in
+    let (f, w) = c.in_ok-check.ensures in
     let x = some_bar f c.loop-place.place (subst (λ m. There f c.loop-place.place (meant m)) c.in-Bar.is (there f _ w _ c.loop-place-test.true _ c.in-Some.ensures)) in
     let n = (c.loop-place.invariant f w).count in
     omega arith
 
 pub close-requires : goal.close-requires
 close-requires g c =
-    let (f, w) = c.in-ok-check.ensures in
+    let (f, w) = c.in_ok-check.ensures in
     let x = some_close f c.loop-place.place (subst (λ m. There f c.loop-place.place (meant m)) c.in-Close.is (there f _ w _ c.loop-place-test.true _ c.in-Some.ensures)) in
     let n = (c.loop-place.invariant f w).count in
     omega arith
 
 pub returns-in-None : goal.returns-in-None
 returns-in-None g c =
-    let (f, w) = c.in-ok-check.ensures in
+    let (f, w) = c.in_ok-check.ensures in
     let d = c.args.frozen.now.dictionary in
     let i = c.loop-place.place in
     let rows = g.S.Store.rows d.store in
@@ -83,7 +83,7 @@ loop-place-preserved g c f w =
 
 pub returns : goal.returns
 returns g c =
-    let (f, w) = c.in-ok-check.ensures in
+    let (f, w) = c.in_ok-check.ensures in
     let d = c.args.frozen.now.dictionary in
     let y = λ (h : Kept (g.S.Store.rows d.store) d.tables).
     look_whole f c.args.text.now w c.loop-place.place (g.S.Store.rows d.store) c.loop-place.frames c.loop-place.last c.loop-place-test.false (c.loop-place.invariant f w) (kept_sound _ d.tables _ h (g.met.S.Store.lawful d.store)) in

@@ -15,13 +15,13 @@ use Rattle.reading.proofs.Upto.{There, there, some_mark, some_room, some_bar, so
 use Rattle.reading.proofs.read.read.Goals as goal
 use Rattle.reading.proofs.read.read.Goals.{in-Open, in-Bar, in-Close+in-Ok, in-Comma}
 
-pub returns-in-err-check : goal.returns-in-err-check
-returns-in-err-check g c =
-    let e : c.from-residual.result ≡ Err (Text c.in-err-check.field-0.0) = search rules in
-    let x = read_faulty c.args.text.now (g.S.Store.room c.args.dictionary.now.store) (g.S.Store.rows c.args.dictionary.now.store) c.from-residual.result c.in-err-check.field-0.0 e c.in-err-check.ensures in
+pub returns-in_err-check : goal.returns-in_err-check
+returns-in_err-check g c =
+    let e : c.from_residual.result ≡ Err (Text c.in_err-check.field-0.0) = search rules in
+    let x = read_faulty c.args.text.now (g.S.Store.room c.args.dictionary.now.store) (g.S.Store.rows c.args.dictionary.now.store) c.from_residual.result c.in_err-check.field-0.0 e c.in_err-check.ensures in
     record {
       reads = λ h. x;
-      back = λ h. reads_back _ _ _ _ c.from-residual.result (kept_sound _ c.args.dictionary.now.tables _ h (g.met.S.Store.lawful c.args.dictionary.now.store)) x;
+      back = λ h. reads_back _ _ _ _ c.from_residual.result (kept_sound _ c.args.dictionary.now.tables _ h (g.met.S.Store.lawful c.args.dictionary.now.store)) x;
       kept = λ h. h;
       room = refl;
     }
@@ -30,32 +30,32 @@ pub loop-place-init : goal.loop-place-init
 loop-place-init g c f w = begins f _ _ _ _ _ c.none-frames.ensures
 
 pub unreachable-requires : goal.unreachable-requires
-unreachable-requires g c = let (f, w) = c.in-ok-check.ensures in some_mark f _ w _ c.loop-place-test.true c.in-default.ensures
+unreachable-requires g c = let (f, w) = c.in_ok-check.ensures in some_mark f _ w _ c.loop-place-test.true c.in_default.ensures
 
 pub open-requires : goal.open-requires
 open-requires g c =
-    let (f, w) = c.in-ok-check.ensures in
+    let (f, w) = c.in_ok-check.ensures in
     let x = some_room f c.loop-place.place (subst (λ m. There f c.loop-place.place (meant m)) c.in-Open.is (there f _ w _ c.loop-place-test.true _ c.in-Some.ensures)) in
     let n = (c.loop-place.invariant f w).count in
     omega arith
 
 pub bar-requires : goal.bar-requires
 bar-requires g c =
-    let (f, w) = c.in-ok-check.ensures in
+    let (f, w) = c.in_ok-check.ensures in
     let x = some_bar f c.loop-place.place (subst (λ m. There f c.loop-place.place (meant m)) c.in-Bar.is (there f _ w _ c.loop-place-test.true _ c.in-Some.ensures)) in
     let n = (c.loop-place.invariant f w).count in
     omega arith
 
 pub close-requires : goal.close-requires
 close-requires g c =
-    let (f, w) = c.in-ok-check.ensures in
+    let (f, w) = c.in_ok-check.ensures in
     let x = some_close f c.loop-place.place (subst (λ m. There f c.loop-place.place (meant m)) c.in-Close.is (there f _ w _ c.loop-place-test.true _ c.in-Some.ensures)) in
     let n = (c.loop-place.invariant f w).count in
     omega arith
 
 pub returns-in-Err : goal.returns-in-Err
 returns-in-Err g c =
-    let (f, w) = c.in-ok-check.ensures in
+    let (f, w) = c.in_ok-check.ensures in
     let d₀ = c.args.dictionary.now in
     let d₁ = c.loop-place.dictionary in
     let d = c.close.new.dictionary in
@@ -102,7 +102,7 @@ loop-place-preserved g c f w =
 
 pub returns : goal.returns
 returns g c =
-    let (f, w) = c.in-ok-check.ensures in
+    let (f, w) = c.in_ok-check.ensures in
     let t = c.loop-place.invariant f w in
     let x = read_whole f _ w _ _ _ _ _ _ _ _ _ c.loop-place-test.false t in
     record {

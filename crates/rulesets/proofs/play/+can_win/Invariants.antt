@@ -2,8 +2,8 @@ use Rattle.std.proofs.Common.{◌≡◌, ℕ, ◌<◌, false, get_or}
 use Rattle.rulesets.specs.Winning.{mover_wins}
 use Rattle.rulesets.proofs.play.+can_win.Given as goal
 
-abbrev pub decreases-can-win : goal.decreases-can-win
-decreases-can-win g l = (g.R.Ruleset.rules l.board.now).rank l.code
+abbrev pub decreases-can_win : goal.decreases-can_win
+decreases-can_win g l = (g.R.Ruleset.rules l.board.now).rank l.code
 
 -- no move tried so far wins
 abbrev pub invariant-loop-index : goal.invariant-loop-index

@@ -4,14 +4,14 @@ use Rattle.toads.specs.Strips.{code_of}
 use Rattle.toads.proofs.Reading.{word_more, word_small}
 use Rattle.toads.proofs.text.code_of.Goals as goal
 
-pub overflow-add-code : goal.overflow-add-code
-overflow-add-code c =
+pub overflow_add-code : goal.overflow_add-code
+overflow_add-code c =
     let k = word_small c.args.text.now c.loop-place.place (omega arith) c.requires in
-    rw (c.loop-place.invariant, c.digit-of.ensures) (omega arith)
+    rw (c.loop-place.invariant, c.digit_of.ensures) (omega arith)
 
 pub loop-place-preserved : goal.loop-place-preserved
 loop-place-preserved c =
-    ap₂ (λ x d. x + d * 2 ^ (2 * c.loop-place.place) % 18446744073709551616) c.loop-place.invariant c.digit-of.ensures
+    ap₂ (λ x d. x + d * 2 ^ (2 * c.loop-place.place) % 18446744073709551616) c.loop-place.invariant c.digit_of.ensures
     ∙ word_more c.args.text.now c.loop-place.place (omega arith) c.requires
 
 pub returns : goal.returns

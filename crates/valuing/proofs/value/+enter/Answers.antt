@@ -32,18 +32,18 @@ enter-requires g t c κs within =
     let falls : R.rank c.in-Some-successor.next < R.rank c.args.code = (successor_falls R l Left c.args.code c.loop-i.i c.in-Some-successor.next c.in-Some-successor.ensures).1 in
     search rules
 
-pub returns-in-err-node : goal.returns-in-err-node
-returns-in-err-node g t c =
+pub returns-in_err-node : goal.returns-in_err-node
+returns-in_err-node g t c =
     let R = g.R.Ruleset.rules c.args.board.now in
     let l = g.met.R.Ruleset.lawful c.args.board.now in
     let d₀ = c.args.dictionary.now in
     let d = c.loop-i.dictionary in
-    let e : c.from-residual.result ≡ Err c.in-err-node.field-0.0 = search rules in
+    let e : c.from_residual.result ≡ Err c.in_err-node.field-0.0 = search rules in
     record {
       entered = broke_left R l c.args.code c.loop-i.i c.in-Some-successor.next (by c.loop-i.moves Left) (g.S.Store.room d₀.store) (g.S.Store.room d.store) (g.S.Store.rows d₀.store) (g.S.Store.rows d.store) (g.S.Store.rows c.enter.new.dictionary.store)
-          (Ready R (g.S.Store.rows d₀.store) d₀.tables c.args.memory.now) (Ready R (g.S.Store.rows d.store) d.tables c.loop-i.memory) c.from-residual.result c.in-err-node.field-0.0 e c.loop-i.invariant.0 c.in-Some-successor.ensures c.in-err-node.ensures.entered;
-      kept = λ h. c.in-err-node.ensures.kept (c.loop-i.invariant.0.kept h);
-      room = c.in-err-node.ensures.room ∙ c.loop-i.invariant.0.room;
+          (Ready R (g.S.Store.rows d₀.store) d₀.tables c.args.memory.now) (Ready R (g.S.Store.rows d.store) d.tables c.loop-i.memory) c.from_residual.result c.in_err-node.field-0.0 e c.loop-i.invariant.0 c.in-Some-successor.ensures c.in_err-node.ensures.entered;
+      kept = λ h. c.in_err-node.ensures.kept (c.loop-i.invariant.0.kept h);
+      room = c.in_err-node.ensures.room ∙ c.loop-i.invariant.0.room;
     }
 
 pub loop-i-preserved : goal.loop-i-preserved
@@ -54,16 +54,16 @@ loop-i-preserved g t c =
     let d₀ = c.args.dictionary.now in
     let d = c.loop-i.dictionary in
     elim c.match-successor.branch [
-      | goal.in-Some-successor+in-ok-node w ↦ (
+      | goal.in-Some-successor+in_ok-node w ↦ (
         subst₂ (λ z m. Turn R ms (c.loop-i.i + 1) (by c.match-successor.moves Left) (g.S.Store.room d₀.store) (g.S.Store.room z.store) (g.S.Store.rows d₀.store) (g.S.Store.rows z.store) (Ready R (g.S.Store.rows d₀.store) d₀.tables c.args.memory.now) (Ready R (g.S.Store.rows z.store) z.tables m))
             (sym w.dictionary-is) (sym w.memory-is)
-            (again R l ms c.loop-i.i w.in-Some-successor.next w.in-ok-node.node (by c.loop-i.moves Left) (by c.match-successor.moves Left) (g.S.Store.room d₀.store) (g.S.Store.room d.store) (g.S.Store.room w.enter.new.dictionary.store) (g.S.Store.rows d₀.store) (g.S.Store.rows d.store) (g.S.Store.rows w.enter.new.dictionary.store)
-            (Ready R (g.S.Store.rows d₀.store) d₀.tables c.args.memory.now) (Ready R (g.S.Store.rows d.store) d.tables c.loop-i.memory) (Ready R (g.S.Store.rows w.enter.new.dictionary.store) w.enter.new.dictionary.tables w.enter.new.memory) c.loop-i.invariant.0 w.in-Some-successor.ensures w.in-ok-node.ensures.room w.in-ok-node.ensures.kept w.in-ok-node.ensures.entered
+            (again R l ms c.loop-i.i w.in-Some-successor.next w.in_ok-node.node (by c.loop-i.moves Left) (by c.match-successor.moves Left) (g.S.Store.room d₀.store) (g.S.Store.room d.store) (g.S.Store.room w.enter.new.dictionary.store) (g.S.Store.rows d₀.store) (g.S.Store.rows d.store) (g.S.Store.rows w.enter.new.dictionary.store)
+            (Ready R (g.S.Store.rows d₀.store) d₀.tables c.args.memory.now) (Ready R (g.S.Store.rows d.store) d.tables c.loop-i.memory) (Ready R (g.S.Store.rows w.enter.new.dictionary.store) w.enter.new.dictionary.tables w.enter.new.memory) c.loop-i.invariant.0 w.in-Some-successor.ensures w.in_ok-node.ensures.room w.in_ok-node.ensures.kept w.in_ok-node.ensures.entered
             (let law = g.met.S.Store.lawful w.enter.new.dictionary.store in let f = law.fits in let m = law.most_room in omega arith)
             (λ k. ap (λ z. by z Left k) w.moves-is ∙ w.insert.ensures.own_val k)),
         λ k. ap (λ z. by z Right k) w.moves-is ∙ w.insert.ensures.theirs k ∙ c.loop-i.invariant.1 k,
       )
-      | goal.in-default-successor w ↦ absurd (nth_none ms c.loop-i.i (omega arith) w.in-default-successor.ensures)
+      | goal.in_default-successor w ↦ absurd (nth_none ms c.loop-i.i (omega arith) w.in_default-successor.ensures)
     ]
 
 pub loop-j-init : goal.loop-j-init
@@ -80,20 +80,20 @@ enter-requires-in-Some-successor-2 g t c κs within =
     let falls : R.rank c.in-Some-successor-2.next < R.rank c.args.code = (successor_falls R l Right c.args.code c.loop-j.j c.in-Some-successor-2.next c.in-Some-successor-2.ensures).1 in
     search rules
 
-pub returns-in-err-node-2 : goal.returns-in-err-node-2
-returns-in-err-node-2 g t c =
+pub returns-in_err-node-2 : goal.returns-in_err-node-2
+returns-in_err-node-2 g t c =
     let R = g.R.Ruleset.rules c.args.board.now in
     let l = g.met.R.Ruleset.lawful c.args.board.now in
     let d₀ = c.args.dictionary.now in
     let d₁ = c.loop-i.dictionary in
     let d = c.loop-j.dictionary in
-    let e : c.from-residual-in-err-node-2.result ≡ Err c.in-err-node-2.field-0.0 = search rules in
+    let e : c.from_residual-in_err-node-2.result ≡ Err c.in_err-node-2.field-0.0 = search rules in
     record {
       entered = broke_right R l c.args.code c.loop-i.i c.loop-j.j (by c.loop-i.moves Left) (by c.loop-j.moves Right) (g.S.Store.room d₀.store) (g.S.Store.room d₁.store) (g.S.Store.room d.store) (g.S.Store.rows d₀.store) (g.S.Store.rows d₁.store) (g.S.Store.rows d.store)
           (Ready R (g.S.Store.rows d₀.store) d₀.tables c.args.memory.now) (Ready R (g.S.Store.rows d₁.store) d₁.tables c.loop-i.memory) (Ready R (g.S.Store.rows d.store) d.tables c.loop-j.memory) (omega arith) c.loop-i.invariant.0 c.loop-j.invariant.0
-          c.in-Some-successor-2.next (g.S.Store.rows c.enter-in-Some-successor-2.new.dictionary.store) c.from-residual-in-err-node-2.result c.in-err-node-2.field-0.0 e c.in-Some-successor-2.ensures c.in-err-node-2.ensures.entered;
-      kept = λ h. c.in-err-node-2.ensures.kept (c.loop-j.invariant.0.kept (c.loop-i.invariant.0.kept h));
-      room = c.in-err-node-2.ensures.room ∙ c.loop-j.invariant.0.room ∙ c.loop-i.invariant.0.room;
+          c.in-Some-successor-2.next (g.S.Store.rows c.enter-in-Some-successor-2.new.dictionary.store) c.from_residual-in_err-node-2.result c.in_err-node-2.field-0.0 e c.in-Some-successor-2.ensures c.in_err-node-2.ensures.entered;
+      kept = λ h. c.in_err-node-2.ensures.kept (c.loop-j.invariant.0.kept (c.loop-i.invariant.0.kept h));
+      room = c.in_err-node-2.ensures.room ∙ c.loop-j.invariant.0.room ∙ c.loop-i.invariant.0.room;
     }
 
 pub loop-j-preserved : goal.loop-j-preserved
@@ -104,16 +104,16 @@ loop-j-preserved g t c =
     let d₀ = c.loop-i.dictionary in
     let d = c.loop-j.dictionary in
     elim c.match-successor-2.branch [
-      | goal.in-Some-successor-2+in-ok-node-2 w ↦ (
+      | goal.in-Some-successor-2+in_ok-node-2 w ↦ (
         subst₂ (λ z m. Turn R ms (c.loop-j.j + 1) (by c.match-successor-2.moves Right) (g.S.Store.room d₀.store) (g.S.Store.room z.store) (g.S.Store.rows d₀.store) (g.S.Store.rows z.store) (Ready R (g.S.Store.rows d₀.store) d₀.tables c.loop-i.memory) (Ready R (g.S.Store.rows z.store) z.tables m))
             (sym w.dictionary-is) (sym w.memory-is)
-            (again R l ms c.loop-j.j w.in-Some-successor-2.next w.in-ok-node-2.node (by c.loop-j.moves Right) (by c.match-successor-2.moves Right) (g.S.Store.room d₀.store) (g.S.Store.room d.store) (g.S.Store.room w.enter-in-Some-successor-2.new.dictionary.store) (g.S.Store.rows d₀.store) (g.S.Store.rows d.store) (g.S.Store.rows w.enter-in-Some-successor-2.new.dictionary.store)
-            (Ready R (g.S.Store.rows d₀.store) d₀.tables c.loop-i.memory) (Ready R (g.S.Store.rows d.store) d.tables c.loop-j.memory) (Ready R (g.S.Store.rows w.enter-in-Some-successor-2.new.dictionary.store) w.enter-in-Some-successor-2.new.dictionary.tables w.enter-in-Some-successor-2.new.memory) c.loop-j.invariant.0 w.in-Some-successor-2.ensures w.in-ok-node-2.ensures.room w.in-ok-node-2.ensures.kept w.in-ok-node-2.ensures.entered
+            (again R l ms c.loop-j.j w.in-Some-successor-2.next w.in_ok-node-2.node (by c.loop-j.moves Right) (by c.match-successor-2.moves Right) (g.S.Store.room d₀.store) (g.S.Store.room d.store) (g.S.Store.room w.enter-in-Some-successor-2.new.dictionary.store) (g.S.Store.rows d₀.store) (g.S.Store.rows d.store) (g.S.Store.rows w.enter-in-Some-successor-2.new.dictionary.store)
+            (Ready R (g.S.Store.rows d₀.store) d₀.tables c.loop-i.memory) (Ready R (g.S.Store.rows d.store) d.tables c.loop-j.memory) (Ready R (g.S.Store.rows w.enter-in-Some-successor-2.new.dictionary.store) w.enter-in-Some-successor-2.new.dictionary.tables w.enter-in-Some-successor-2.new.memory) c.loop-j.invariant.0 w.in-Some-successor-2.ensures w.in_ok-node-2.ensures.room w.in_ok-node-2.ensures.kept w.in_ok-node-2.ensures.entered
             (let law = g.met.S.Store.lawful w.enter-in-Some-successor-2.new.dictionary.store in let f = law.fits in let m = law.most_room in omega arith)
             (λ k. ap (λ z. by z Right k) w.moves-is ∙ w.insert-in-Some-successor-2.ensures.own_val k)),
         λ k. ap (λ z. by z Left k) w.moves-is ∙ w.insert-in-Some-successor-2.ensures.theirs k ∙ c.loop-j.invariant.1 k,
       )
-      | goal.in-default-successor-2 w ↦ absurd (nth_none ms c.loop-j.j (omega arith) w.in-default-successor-2.ensures)
+      | goal.in_default-successor-2 w ↦ absurd (nth_none ms c.loop-j.j (omega arith) w.in_default-successor-2.ensures)
     ]
 
 pub returns-in-Ok : goal.returns-in-Ok

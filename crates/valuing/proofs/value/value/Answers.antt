@@ -6,8 +6,8 @@ use Rattle.valuing.specs.Ready.{Ready}
 use Rattle.valuing.proofs.Remembering.{ready_empty}
 use Rattle.valuing.proofs.value.value.Goals as goal
 
-pub returns-then-not-is-legal : goal.returns-then-not-is-legal
-returns-then-not-is-legal g c = record { valued = λ h. record { entries = []; holds = Values.illegal (search rules) }; kept = λ h. h; room = refl }
+pub returns-then-not-is_legal : goal.returns-then-not-is_legal
+returns-then-not-is_legal g c = record { valued = λ h. record { entries = []; holds = Values.illegal (search rules) }; kept = λ h. h; room = refl }
 
 pub returns : goal.returns
 returns g c =

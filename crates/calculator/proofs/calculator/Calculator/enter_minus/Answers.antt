@@ -10,12 +10,12 @@ use Rattle.calculator.specs.Subjects.{negated}
 use Rattle.calculator.proofs.Subjects.{one_refused, one_valued}
 use Rattle.calculator.proofs.calculator.Calculator.enter_minus.Goals as goal
 
-pub returns-in-err-setup : goal.returns-in-err-setup
-returns-in-err-setup g c =
+pub returns-in_err-setup : goal.returns-in_err-setup
+returns-in_err-setup g c =
     let d = c.args.self.now.dictionary in
-    let e : c.from-residual.result ≡ Err c.in-err-setup.field-0.0 = search rules in
+    let e : c.from_residual.result ≡ Err c.in_err-setup.field-0.0 = search rules in
     record {
-      entered = λ k b x. one_refused (g.S.Store.room d.store) (g.S.Store.rows d.store) c.args.place (minus b) (c.args.place + length (codes "(minus ")) b refl c.in-err-setup.field-0.0 c.from-residual.result e (c.in-err-setup.ensures (c.args.place + length (codes "(minus ")) b x);
+      entered = λ k b x. one_refused (g.S.Store.room d.store) (g.S.Store.rows d.store) c.args.place (minus b) (c.args.place + length (codes "(minus ")) b refl c.in_err-setup.field-0.0 c.from_residual.result e (c.in_err-setup.ensures (c.args.place + length (codes "(minus ")) b x);
       kept = λ k. k;
       room = refl;
     }
@@ -24,9 +24,9 @@ pub returns : goal.returns
 returns g c =
     let d = c.args.self.now.dictionary in
     record {
-      entered = λ k b x. one_valued (g.S.Store.room d.store) (g.S.Store.rows d.store) c.args.place (minus b) (c.args.place + length (codes "(minus ")) b refl c.in-ok-setup.setup (c.in-ok-setup.ensures (c.args.place + length (codes "(minus ")) b x)
-          (negated (position c.in-ok-setup.setup)) (ap (option_map negated) (c.in-ok-setup.ensures (c.args.place + length (codes "(minus ")) b x).0) _ _
-          (subst (λ z. ValuedAt (Sums.minus (any_rules z)) (g.S.Store.room d.store) (g.S.Store.rows d.store) c.args.place c.in-ok-setup.setup.code (answer_of c.enter.result) (g.S.Store.rows c.enter.new.self.dictionary.store)) c.new.ensures.made (c.enter.ensures.valued k));
+      entered = λ k b x. one_valued (g.S.Store.room d.store) (g.S.Store.rows d.store) c.args.place (minus b) (c.args.place + length (codes "(minus ")) b refl c.in_ok-setup.setup (c.in_ok-setup.ensures (c.args.place + length (codes "(minus ")) b x)
+          (negated (position c.in_ok-setup.setup)) (ap (option_map negated) (c.in_ok-setup.ensures (c.args.place + length (codes "(minus ")) b x).0) _ _
+          (subst (λ z. ValuedAt (Sums.minus (any_rules z)) (g.S.Store.room d.store) (g.S.Store.rows d.store) c.args.place c.in_ok-setup.setup.code (answer_of c.enter.result) (g.S.Store.rows c.enter.new.self.dictionary.store)) c.new.ensures.made (c.enter.ensures.valued k));
       kept = c.enter.ensures.kept;
       room = c.enter.ensures.room;
     }

@@ -5,12 +5,12 @@ use Rattle.boards.specs.AnyBoards.{position}
 use Rattle.calculator.proofs.Subjects.{one_refused, one_valued}
 use Rattle.calculator.proofs.calculator.Calculator.enter_plain.Goals as goal
 
-pub returns-in-err-setup : goal.returns-in-err-setup
-returns-in-err-setup g c =
+pub returns-in_err-setup : goal.returns-in_err-setup
+returns-in_err-setup g c =
     let d = c.args.self.now.dictionary in
-    let e : c.from-residual.result ≡ Err c.in-err-setup.field-0.0 = search rules in
+    let e : c.from_residual.result ≡ Err c.in_err-setup.field-0.0 = search rules in
     record {
-      entered = λ k b x. one_refused (g.S.Store.room d.store) (g.S.Store.rows d.store) c.args.place (plain b) c.args.place b refl c.in-err-setup.field-0.0 c.from-residual.result e (c.in-err-setup.ensures c.args.place b x);
+      entered = λ k b x. one_refused (g.S.Store.room d.store) (g.S.Store.rows d.store) c.args.place (plain b) c.args.place b refl c.in_err-setup.field-0.0 c.from_residual.result e (c.in_err-setup.ensures c.args.place b x);
       kept = λ k. k;
       room = refl;
     }
@@ -19,8 +19,8 @@ pub returns : goal.returns
 returns g c =
     let d = c.args.self.now.dictionary in
     record {
-      entered = λ k b x. one_valued (g.S.Store.room d.store) (g.S.Store.rows d.store) c.args.place (plain b) c.args.place b refl c.in-ok-setup.setup (c.in-ok-setup.ensures c.args.place b x)
-          (position c.in-ok-setup.setup) (c.in-ok-setup.ensures c.args.place b x).0 _ _ (c.enter.ensures.valued k);
+      entered = λ k b x. one_valued (g.S.Store.room d.store) (g.S.Store.rows d.store) c.args.place (plain b) c.args.place b refl c.in_ok-setup.setup (c.in_ok-setup.ensures c.args.place b x)
+          (position c.in_ok-setup.setup) (c.in_ok-setup.ensures c.args.place b x).0 _ _ (c.enter.ensures.valued k);
       kept = c.enter.ensures.kept;
       room = c.enter.ensures.room;
     }

@@ -8,32 +8,32 @@ use Rattle.calculator.proofs.Places.{sum_code}
 use Rattle.calculator.proofs.Subjects.{left_place, right_place, sum_refused, sum_valued}
 use Rattle.calculator.proofs.calculator.Calculator.enter_sum.Goals as goal
 
-pub returns-in-err-left : goal.returns-in-err-left
-returns-in-err-left g c =
+pub returns-in_err-left : goal.returns-in_err-left
+returns-in_err-left g c =
     let d = c.args.self.now.dictionary in
     let r = g.S.Store.room d.store in
     let rows = g.S.Store.rows d.store in
     let i = c.args.place in
-    let e : c.from-residual.result ≡ Err c.in-err-left.field-0.0 = search rules in
+    let e : c.from_residual.result ≡ Err c.in_err-left.field-0.0 = search rules in
     record {
-      entered = λ k a b x y. sum_refused r rows i a b c.in-err-left.field-0.0 c.from-residual.result e (c.in-err-left.ensures.stood (left_place r rows i a b) (right_place r rows i a b) a b x y);
+      entered = λ k a b x y. sum_refused r rows i a b c.in_err-left.field-0.0 c.from_residual.result e (c.in_err-left.ensures.stood (left_place r rows i a b) (right_place r rows i a b) a b x y);
       kept = λ k. k;
       room = refl;
     }
 
-pub overflow-mul-code : goal.overflow-mul-code
-overflow-mul-code g c =
-    let l = c.in-ok-left.left in
-    let r = c.in-ok-left.right in
-    let b : l.code * (any_rules r.board).limit + r.code < 2 ^ 60 = sum_code l.board r.board l.code r.code c.in-ok-left.ensures.both.0 c.in-ok-left.ensures.both.1 in
+pub overflow_mul-code : goal.overflow_mul-code
+overflow_mul-code g c =
+    let l = c.in_ok-left.left in
+    let r = c.in_ok-left.right in
+    let b : l.code * (any_rules r.board).limit + r.code < 2 ^ 60 = sum_code l.board r.board l.code r.code c.in_ok-left.ensures.both.0 c.in_ok-left.ensures.both.1 in
     let e = c.limit.ensures in
     search rules
 
-pub overflow-add-code : goal.overflow-add-code
-overflow-add-code g c =
-    let l = c.in-ok-left.left in
-    let r = c.in-ok-left.right in
-    let b : l.code * (any_rules r.board).limit + r.code < 2 ^ 60 = sum_code l.board r.board l.code r.code c.in-ok-left.ensures.both.0 c.in-ok-left.ensures.both.1 in
+pub overflow_add-code : goal.overflow_add-code
+overflow_add-code g c =
+    let l = c.in_ok-left.left in
+    let r = c.in_ok-left.right in
+    let b : l.code * (any_rules r.board).limit + r.code < 2 ^ 60 = sum_code l.board r.board l.code r.code c.in_ok-left.ensures.both.0 c.in_ok-left.ensures.both.1 in
     let e = c.limit.ensures in
     search rules
 
@@ -43,10 +43,10 @@ returns g c =
     let r = g.S.Store.room d.store in
     let rows = g.S.Store.rows d.store in
     let i = c.args.place in
-    let left = c.in-ok-left.left in
-    let right = c.in-ok-left.right in
+    let left = c.in_ok-left.left in
+    let right = c.in_ok-left.right in
     record {
-      entered = λ k a b x y. sum_valued r rows i a b (c.in-ok-left.left, c.in-ok-left.right) (c.in-ok-left.ensures.stood (left_place r rows i a b) (right_place r rows i a b) a b x y) _ _
+      entered = λ k a b x y. sum_valued r rows i a b (c.in_ok-left.left, c.in_ok-left.right) (c.in_ok-left.ensures.stood (left_place r rows i a b) (right_place r rows i a b) a b x y) _ _
           (subst (λ z. ValuedAt (Sums.plus (any_rules left.board) (any_rules right.board)) r rows i (left.code * z + right.code) (answer_of c.enter.result) (g.S.Store.rows c.enter.new.self.dictionary.store)) c.limit.ensures
           (subst₂ (λ p q. ValuedAt (Sums.plus (any_rules p) (any_rules q)) r rows i (left.code * c.limit.result + right.code) (answer_of c.enter.result) (g.S.Store.rows c.enter.new.self.dictionary.store)) c.add.ensures.parts.0 c.add.ensures.parts.1 (c.enter.ensures.valued k)));
       kept = c.enter.ensures.kept;

@@ -10,7 +10,7 @@ returns-in-Err g c = record {
   entered = λ k small.
       let x = c.in-Err.ensures.reads k in
       let b = reads_bound c.args.text.now.bytes.now x.holds in
-      let e : c.saturating-add-place.result ≡ c.args.text.now.place + read_place c.in-Err.fault = omega (arith, c.saturating-add-place.ensures, c.place.ensures) in
+      let e : c.saturating_add-place.result ≡ c.args.text.now.place + read_place c.in-Err.fault = omega (arith, c.saturating_add-place.ensures, c.place.ensures) in
       record { plain = _; entries = x.entries; holds = x.holds; answers = ap (refused_at (read_number c.in-Err.fault)) e };
   kept = c.in-Err.ensures.kept;
   room = c.in-Err.ensures.room;

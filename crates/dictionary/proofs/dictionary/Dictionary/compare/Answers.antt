@@ -15,5 +15,5 @@ returns g c kept =
     let n = c.count-count.ensures.number in
     let h = c.if-a-count.false in
     let l = c.if-b-count.false in
-    compares (g.S.Store.rows c.args.self.now.store) c.args.self.now.tables kept c.args.a c.args.b (omega arith) (omega arith) c.is-as-good-above.result c.is-as-good-below.result
-    c.by-play.result c.is-as-good-above.ensures c.is-as-good-below.ensures c.by-play.ensures.value
+    compares (g.S.Store.rows c.args.self.now.store) c.args.self.now.tables kept c.args.a c.args.b (omega arith) (omega arith) c.is_as_good-above.result c.is_as_good-below.result
+    c.by_play.result c.is_as_good-above.ensures c.is_as_good-below.ensures c.by_play.ensures.value

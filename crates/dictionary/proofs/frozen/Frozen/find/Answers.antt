@@ -4,8 +4,8 @@ use Rattle.stores.specs.Rows.{row_of_lists}
 use Rattle.dictionary.proofs.Found.{none_so_long}
 use Rattle.dictionary.proofs.frozen.Frozen.find.Goals as goal
 
-pub returns-in-err-row : goal.returns-in-err-row
-returns-in-err-row g c =
-    let e : c.from-residual.result ≡ None = search rules in
-    let h = c.in-err-row.ensures in
+pub returns-in_err-row : goal.returns-in_err-row
+returns-in_err-row g c =
+    let e : c.from_residual.result ≡ None = search rules in
+    let h = c.in_err-row.ensures in
     e ∙ none_so_long (g.S.Store.rows c.args.self.now.dictionary.store) _ (g.met.S.Store.lawful c.args.self.now.dictionary.store) c.args.left.now c.args.right.now h

@@ -4,8 +4,8 @@ use Rattle.domineering.specs.Size.{columns_high}
 use Rattle.domineering.proofs.Masks.{upright_domino, flat_domino}
 use Rattle.domineering.proofs.board.Board.domino.Goals as goal
 
-pub overflow-shl-result : goal.overflow-shl-result
-overflow-shl-result c = let b = c.args.self.now in omega (arith, columns_high b.rows b.columns b.small)
+pub overflow_shl-result : goal.overflow_shl-result
+overflow_shl-result c = let b = c.args.self.now in omega (arith, columns_high b.rows b.columns b.small)
 
 pub returns-in-Left : goal.returns-in-Left
 returns-in-Left c i = let b = c.args.self.now in rw c.in-Left.is (upright_domino b.columns (omega (arith, columns_high b.rows b.columns b.small)) i)

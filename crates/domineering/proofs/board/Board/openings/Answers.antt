@@ -4,8 +4,8 @@ use Rattle.domineering.specs.Size.{columns_high}
 use Rattle.domineering.proofs.Masks.{upright_bit, flat_bit}
 use Rattle.domineering.proofs.board.Board.openings.Goals as goal
 
-pub overflow-shr-result : goal.overflow-shr-result
-overflow-shr-result c = let b = c.args.self.now in omega (arith, columns_high b.rows b.columns b.small)
+pub overflow_shr-result : goal.overflow_shr-result
+overflow_shr-result c = let b = c.args.self.now in omega (arith, columns_high b.rows b.columns b.small)
 
 pub returns-in-Left : goal.returns-in-Left
 returns-in-Left c i = let b = c.args.self.now in rw c.in-Left.is (upright_bit b.rows b.columns c.args.code c.empty-empty.result c.empty-empty.ensures i)

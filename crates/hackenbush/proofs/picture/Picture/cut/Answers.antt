@@ -15,8 +15,8 @@ returns-then-code-self c = let p = c.args.self.now in elim (cases_Bool (legal (e
   | inr l ↦ rw l
 ]
 
-pub overflow-shl-edge : goal.overflow-shl-edge
-overflow-shl-edge c = bit_within c.args.code 64 c.args.place (omega arith) c.requires
+pub overflow_shl-edge : goal.overflow_shl-edge
+overflow_shl-edge c = bit_within c.args.code 64 c.args.place (omega arith) c.requires
 
 pub run-after-requires : goal.run-after-requires
 run-after-requires c = picture_others c.args.self.now c.args.code c.args.place c.requires (omega arith) c.if-code-self.false

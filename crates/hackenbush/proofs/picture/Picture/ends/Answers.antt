@@ -4,11 +4,11 @@ use Rattle.bits.proofs.Words.{bit_or_lem, bit_one_shl}
 use Rattle.hackenbush.specs.Reading.{edge_at, ends_near}
 use Rattle.hackenbush.proofs.picture.Picture.ends.Goals as goal
 
-pub overflow-shl-result : goal.overflow-shl-result
-overflow-shl-result c = omega (arith, (ends_near c.args.self.now c.args.place c.requires).0)
+pub overflow_shl-result : goal.overflow_shl-result
+overflow_shl-result c = omega (arith, (ends_near c.args.self.now c.args.place c.requires).0)
 
-pub overflow-shl-result-2 : goal.overflow-shl-result-2
-overflow-shl-result-2 c = omega (arith, (ends_near c.args.self.now c.args.place c.requires).1)
+pub overflow_shl-result-2 : goal.overflow_shl-result-2
+overflow_shl-result-2 c = omega (arith, (ends_near c.args.self.now c.args.place c.requires).1)
 
 pub returns : goal.returns
 returns c = let n = ends_near c.args.self.now c.args.place c.requires in

@@ -8,8 +8,8 @@ use Rattle.hackenbush.proofs.Flags.{lowest, clear_less, bit_within}
 use Rattle.hackenbush.proofs.Flooding.{Turning, turning_below, turning_more, turning_all, spread_whole}
 use Rattle.hackenbush.proofs.picture.Picture.round.Goals as goal
 
-pub overflow-shl-left : goal.overflow-shl-left
-overflow-shl-left c = (lowest c.loop-left.left (omega arith) c.loop-left-test.true).0
+pub overflow_shl-left : goal.overflow_shl-left
+overflow_shl-left c = (lowest c.loop-left.left (omega arith) c.loop-left-test.true).0
 
 pub look-flood-requires : goal.look-flood-requires
 look-flood-requires c =

@@ -6,7 +6,7 @@ use Rattle.bits.proofs.Words.{bit_none}
 use Rattle.hackenbush.specs.Hackenbush.{painted}
 use Rattle.hackenbush.proofs.Making.{set_more, set_same, set_all, painted_at}
 use Rattle.hackenbush.proofs.picture.making.coloured.Goals as goal
-use Rattle.hackenbush.proofs.picture.making.coloured.Goals.{then-is-cut-by, else-is-cut-by}
+use Rattle.hackenbush.proofs.picture.making.coloured.Goals.{then-is_cut_by, else-is_cut_by}
 
 pub loop-i-init : goal.loop-i-init
 loop-i-init c j = bit_none j ∙ rw (le-ltb j 0 (omega arith))
@@ -15,11 +15,11 @@ pub loop-i-preserved : goal.loop-i-preserved
 loop-i-preserved c =
     let q = painted c.args.side c.args.edges.now in
     let here = painted_at c.args.side c.args.edges.now c.loop-i.i c.loop-i-test.true in
-    elim c.if-is-cut-by.branch [
-      | then-is-cut-by w ↦ λ j. subst (λ (n : ℕ). bit n j ≡ (ltb j (c.loop-i.i + 1) && q j)) (sym w.set-is)
-          (set_more q c.loop-i.set c.loop-i.i c.loop-i.invariant (here ∙ sym c.is-cut-by.ensures ∙ w.if-is-cut-by.true) (omega (arith, c.requires)) j)
-      | else-is-cut-by w ↦ λ j. subst (λ (n : ℕ). bit n j ≡ (ltb j (c.loop-i.i + 1) && q j)) (sym w.set-is)
-          (set_same q c.loop-i.set c.loop-i.i c.loop-i.invariant (here ∙ sym c.is-cut-by.ensures ∙ w.if-is-cut-by.false) j)
+    elim c.if-is_cut_by.branch [
+      | then-is_cut_by w ↦ λ j. subst (λ (n : ℕ). bit n j ≡ (ltb j (c.loop-i.i + 1) && q j)) (sym w.set-is)
+          (set_more q c.loop-i.set c.loop-i.i c.loop-i.invariant (here ∙ sym c.is_cut_by.ensures ∙ w.if-is_cut_by.true) (omega (arith, c.requires)) j)
+      | else-is_cut_by w ↦ λ j. subst (λ (n : ℕ). bit n j ≡ (ltb j (c.loop-i.i + 1) && q j)) (sym w.set-is)
+          (set_same q c.loop-i.set c.loop-i.i c.loop-i.invariant (here ∙ sym c.is_cut_by.ensures ∙ w.if-is_cut_by.false) j)
     ]
 
 pub returns : goal.returns

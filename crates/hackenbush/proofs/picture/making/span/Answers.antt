@@ -9,11 +9,11 @@ use Rattle.hackenbush.proofs.picture.making.span.Goals as goal
 pub loop-edge-init : goal.loop-edge-init
 loop-edge-init c v = rw (bit_none v)
 
-pub overflow-shl-set : goal.overflow-shl-set
-overflow-shl-set c = omega (arith, (near_at c.args.edges.now c.loop-edge.edge_index _ c.requires (slice_get-get_or c.args.edges.now c.loop-edge.edge_index blank c.loop-edge-test.true)).0)
+pub overflow_shl-set : goal.overflow_shl-set
+overflow_shl-set c = omega (arith, (near_at c.args.edges.now c.loop-edge.edge_index _ c.requires (slice_get-get_or c.args.edges.now c.loop-edge.edge_index blank c.loop-edge-test.true)).0)
 
-pub overflow-shl-set-in-loop-edge : goal.overflow-shl-set-in-loop-edge
-overflow-shl-set-in-loop-edge c = omega (arith, (near_at c.args.edges.now c.loop-edge.edge_index _ c.requires (slice_get-get_or c.args.edges.now c.loop-edge.edge_index blank c.loop-edge-test.true)).1)
+pub overflow_shl-set-in-loop-edge : goal.overflow_shl-set-in-loop-edge
+overflow_shl-set-in-loop-edge c = omega (arith, (near_at c.args.edges.now c.loop-edge.edge_index _ c.requires (slice_get-get_or c.args.edges.now c.loop-edge.edge_index blank c.loop-edge-test.true)).1)
 
 pub loop-edge-preserved : goal.loop-edge-preserved
 loop-edge-preserved c =

@@ -4,14 +4,14 @@ use Rattle.lines.proofs.Nesting.{Waited, waited_left, waited_right, digits_fit}
 use Rattle.lines.proofs.nest.Nest.wait.Goals as goal
 use Rattle.lines.proofs.nest.Nest.wait.Goals.{in-Left, in-Right}
 
-pub overflow-mul-rights : goal.overflow-mul-rights
-overflow-mul-rights c = let l = digits_fit c.args.self.waiting c.args.self.rights c.requires.0.digits (omega arith) in omega arith
+pub overflow_mul-rights : goal.overflow_mul-rights
+overflow_mul-rights c = let l = digits_fit c.args.self.waiting c.args.self.rights c.requires.0.digits (omega arith) in omega arith
 
-pub overflow-mul-rights-in-Right : goal.overflow-mul-rights-in-Right
-overflow-mul-rights-in-Right c = let l = digits_fit c.args.self.waiting c.args.self.rights c.requires.0.digits (omega arith) in omega arith
+pub overflow_mul-rights-in-Right : goal.overflow_mul-rights-in-Right
+overflow_mul-rights-in-Right c = let l = digits_fit c.args.self.waiting c.args.self.rights c.requires.0.digits (omega arith) in omega arith
 
-pub overflow-add-rights : goal.overflow-add-rights
-overflow-add-rights c = let l = digits_fit c.args.self.waiting c.args.self.rights c.requires.0.digits (omega arith) in omega arith
+pub overflow_add-rights : goal.overflow_add-rights
+overflow_add-rights c = let l = digits_fit c.args.self.waiting c.args.self.rights c.requires.0.digits (omega arith) in omega arith
 
 pub returns : goal.returns
 returns c =

@@ -5,40 +5,40 @@ use Rattle.lines.proofs.Going.{fails_under}
 use Rattle.lines.proofs.Wholes.{blank_fails, second_fails, last_fails, last_goes, second_place, comparison_of}
 use Rattle.lines.proofs.reader.Reader.comparison.Goals as goal
 
-pub returns-in-err-first : goal.returns-in-err-first
-returns-in-err-first c =
-    let p = err_from_is_err_and c.from-residual.result c.from-residual.ensures.1 in
-    let h = c.in-err-first.ensures in
+pub returns-in_err-first : goal.returns-in_err-first
+returns-in_err-first c =
+    let p = err_from_is_err_and c.from_residual.result c.from_residual.ensures.1 in
+    let h = c.in_err-first.ensures in
     rw (p.1, p.2) (record { same = h.same; read = fails_under (just 32 ∷ subject ∷ just 41 ∷ []) refl h.read })
 
-pub returns-in-err-expect : goal.returns-in-err-expect
-returns-in-err-expect c =
-    let p = err_from_is_err_and c.from-residual-in-err-expect.result c.from-residual-in-err-expect.ensures.1 in
-    let a = c.in-ok-first.ensures in
-    let h = c.in-err-expect.ensures in
+pub returns-in_err-expect : goal.returns-in_err-expect
+returns-in_err-expect c =
+    let p = err_from_is_err_and c.from_residual-in_err-expect.result c.from_residual-in_err-expect.ensures.1 in
+    let a = c.in_ok-first.ensures in
+    let h = c.in_err-expect.ensures in
     rw (p.1, p.2) (record { same = h.same ∙ a.same; read = blank_fails subject subject refl a.same a.read.1 (h.read (just 32) [] refl refl) })
 
-pub returns-in-err-second : goal.returns-in-err-second
-returns-in-err-second c =
-    let p = err_from_is_err_and c.from-residual-in-err-second.result c.from-residual-in-err-second.ensures.1 in
-    let a = c.in-ok-first.ensures in
-    let b = c.in-ok-expect.ensures in
-    let h = c.in-err-second.ensures in
+pub returns-in_err-second : goal.returns-in_err-second
+returns-in_err-second c =
+    let p = err_from_is_err_and c.from_residual-in_err-second.result c.from_residual-in_err-second.ensures.1 in
+    let a = c.in_ok-first.ensures in
+    let b = c.in_ok-expect.ensures in
+    let h = c.in_err-second.ensures in
     rw (p.1, p.2) (record { same = h.same ∙ (b.same ∙ a.same); read = second_fails subject subject refl a.same a.read.1 b.same (b.read (just 32) [] refl refl) h.read })
 
-pub returns-in-err-expect-2 : goal.returns-in-err-expect-2
-returns-in-err-expect-2 c =
-    let p = err_from_is_err_and c.from-residual-in-err-expect-2.result c.from-residual-in-err-expect-2.ensures.1 in
-    let a = c.in-ok-first.ensures in
-    let b = c.in-ok-expect.ensures in
-    let d = c.in-ok-second.ensures in
-    let h = c.in-err-expect-2.ensures in
+pub returns-in_err-expect-2 : goal.returns-in_err-expect-2
+returns-in_err-expect-2 c =
+    let p = err_from_is_err_and c.from_residual-in_err-expect-2.result c.from_residual-in_err-expect-2.ensures.1 in
+    let a = c.in_ok-first.ensures in
+    let b = c.in_ok-expect.ensures in
+    let d = c.in_ok-second.ensures in
+    let h = c.in_err-expect-2.ensures in
     rw (p.1, p.2) (record { same = h.same ∙ (d.same ∙ (b.same ∙ a.same)); read = last_fails subject subject refl a.same a.read.1 b.same (b.read (just 32) [] refl refl) d.same d.read.1 (h.read (just 41) [] refl refl) })
 
 pub returns : goal.returns
 returns c =
-    let a = c.in-ok-first.ensures in
-    let b = c.in-ok-expect.ensures in
-    let d = c.in-ok-second.ensures in
-    let h = c.in-ok-expect-2.ensures in
+    let a = c.in_ok-first.ensures in
+    let b = c.in_ok-expect.ensures in
+    let d = c.in_ok-second.ensures in
+    let h = c.in_ok-expect-2.ensures in
     record { same = h.same ∙ (d.same ∙ (b.same ∙ a.same)); read = (_, last_goes subject subject refl a.same a.read.1 b.same (b.read (just 32) [] refl refl) d.same d.read.1 (h.read (just 41) [] refl refl), comparison_of _ _ _ _ a.read.2 d.read.2 (second_place subject subject refl a.same a.read.1 b.same (b.read (just 32) [] refl refl) d.same d.read.1)) }

@@ -5,21 +5,21 @@ use Rattle.lines.proofs.Going.{fails_under}
 use Rattle.lines.proofs.Wholes.{closed_goes, closed_fails, value_of}
 use Rattle.lines.proofs.reader.Reader.value.Goals as goal
 
-pub returns-in-err-subject : goal.returns-in-err-subject
-returns-in-err-subject c =
-    let p = err_from_is_err_and c.from-residual.result c.from-residual.ensures.1 in
-    let h = c.in-err-subject.ensures in
+pub returns-in_err-subject : goal.returns-in_err-subject
+returns-in_err-subject c =
+    let p = err_from_is_err_and c.from_residual.result c.from_residual.ensures.1 in
+    let h = c.in_err-subject.ensures in
     rw (p.1, p.2) (record { same = h.same; read = fails_under (just 41 ∷ []) refl h.read })
 
-pub returns-in-err-expect : goal.returns-in-err-expect
-returns-in-err-expect c =
-    let p = err_from_is_err_and c.from-residual-in-err-expect.result c.from-residual-in-err-expect.ensures.1 in
-    let a = c.in-ok-subject.ensures in
-    let h = c.in-err-expect.ensures in
+pub returns-in_err-expect : goal.returns-in_err-expect
+returns-in_err-expect c =
+    let p = err_from_is_err_and c.from_residual-in_err-expect.result c.from_residual-in_err-expect.ensures.1 in
+    let a = c.in_ok-subject.ensures in
+    let h = c.in_err-expect.ensures in
     rw (p.1, p.2) (record { same = h.same ∙ a.same; read = closed_fails subject a.same a.read.1 (h.read (just 41) [] refl refl) })
 
 pub returns : goal.returns
 returns c =
-    let a = c.in-ok-subject.ensures in
-    let h = c.in-ok-expect.ensures in
+    let a = c.in_ok-subject.ensures in
+    let h = c.in_ok-expect.ensures in
     record { same = h.same ∙ a.same; read = (_, closed_goes subject a.same a.read.1 (h.read (just 41) [] refl refl), value_of _ _ a.read.2) }

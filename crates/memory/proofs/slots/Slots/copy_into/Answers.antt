@@ -3,7 +3,7 @@ use Rattle.std.proofs.Common.{vec_items, sym, subst, inl}
 use Rattle.memory.specs.Holds.{Among, Joined}
 use Rattle.memory.proofs.Tables.{joined_more}
 use Rattle.memory.proofs.slots.Slots.copy_into.Goals as goal
-use Rattle.memory.proofs.slots.Slots.copy_into.Goals.{in-Some, in-default}
+use Rattle.memory.proofs.slots.Slots.copy_into.Goals.{in-Some, in_default}
 
 pub loop-place-init : goal.loop-place-init
 loop-place-init c = λ code n x. inl x
@@ -16,5 +16,5 @@ loop-place-preserved c =
       | in-Some w ↦
           subst (λ t. Joined (Among self) (Among began) (Among (vec_items t.slots))) (sym w.other-is)
           (joined_more (Among (vec_items c.loop-place.other.slots)) w.in-Some.code w.in-Some.number c.loop-place.invariant w.in-Some.ensures w.note.ensures)
-      | in-default w ↦ subst (λ t. Joined (Among self) (Among began) (Among (vec_items t.slots))) (sym w.other-is) c.loop-place.invariant
+      | in_default w ↦ subst (λ t. Joined (Among self) (Among began) (Among (vec_items t.slots))) (sym w.other-is) c.loop-place.invariant
     ]

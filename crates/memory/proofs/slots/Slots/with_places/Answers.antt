@@ -6,5 +6,5 @@ use Rattle.memory.proofs.slots.Slots.with_places.Goals as goal
 
 pub returns : goal.returns
 returns c code n x =
-    let e : vec_items c.resize.new.self ≡ replicate c.args.places free = c.resize.ensures.items ∙ filled free _ _ _ c.args.places c.if-is-err.ensures.negation c.new-slots.ensures.items c.new-slots.ensures.len in
+    let e : vec_items c.resize.new.self ≡ replicate c.args.places free = c.resize.ensures.items ∙ filled free _ _ _ c.args.places c.if-is_err.ensures.negation c.new-slots.ensures.items c.new-slots.ensures.len in
     none_held c.args.places code n (subst (λ s. Among s code n) e x)

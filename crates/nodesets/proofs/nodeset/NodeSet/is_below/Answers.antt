@@ -10,12 +10,12 @@ returns c = (
   λ e k t. elim (cases_lt k c.args.n) [
     | inl h ↦ h
     | inr h ↦ elim (cases_lt k 384) [
-      | inl l ↦ absurd (both_ways (has c.args.self.now k) (c.next-inside.ensures.passed k h (omega (arith, leb-true 384 c.next-inside.result e))) t)
+      | inl l ↦ absurd (both_ways (has c.args.self.now k) (c.next_inside.ensures.passed k h (omega (arith, leb-true 384 c.next_inside.result e))) t)
       | inr l ↦ absurd (both_ways (has c.args.self.now k) (mem_past c.args.self.now.words k c.args.self.now.six l) t)
     ]
   ],
-  λ f. elim (cases_lt c.next-inside.result 384) [
-    | inl l ↦ absurd (omega (arith, f c.next-inside.result (c.next-inside.ensures.inside l), c.next-inside.ensures.reach l))
-    | inr l ↦ le-leb 384 c.next-inside.result l
+  λ f. elim (cases_lt c.next_inside.result 384) [
+    | inl l ↦ absurd (omega (arith, f c.next_inside.result (c.next_inside.ensures.inside l), c.next_inside.ensures.reach l))
+    | inr l ↦ le-leb 384 c.next_inside.result l
   ],
 )

@@ -6,11 +6,11 @@ use Rattle.nodesets.specs.Pairs.{by}
 use Rattle.nodesets.proofs.Sides.{both}
 use Rattle.nodesets.proofs.pair.Pair.is_below.Goals as goal
 
-pub returns-then-is-below : goal.returns-then-is-below
-returns-then-is-below c = (
-  λ e. both (λ s. (k : ℕ) → by c.args.self.now s k ≡ true → k < c.args.n) (c.is-below.ensures.0 c.if-is-below.true) (c.is-below-then-is-below.ensures.0 e),
-  λ h. c.is-below-then-is-below.ensures.1 (h Right),
+pub returns-then-is_below : goal.returns-then-is_below
+returns-then-is_below c = (
+  λ e. both (λ s. (k : ℕ) → by c.args.self.now s k ≡ true → k < c.args.n) (c.is_below.ensures.0 c.if-is_below.true) (c.is_below-then-is_below.ensures.0 e),
+  λ h. c.is_below-then-is_below.ensures.1 (h Right),
 )
 
-pub returns-else-is-below : goal.returns-else-is-below
-returns-else-is-below c = (λ e. absurd (both_ways _ c.if-is-below.false e), λ h. c.is-below.ensures.1 (h Left))
+pub returns-else-is_below : goal.returns-else-is_below
+returns-else-is_below c = (λ e. absurd (both_ways _ c.if-is_below.false e), λ h. c.is_below.ensures.1 (h Left))

@@ -15,18 +15,18 @@ on p o r h x = elim (cases_lt r 384) [ inl l ↦ x.reach l | inr l ↦ omega ari
 
 pub loop-o-init : goal.loop-o-init
 loop-o-init c = (
-  c.next-inside-o.ensures.bound,
-  c.next-inside-o.ensures.inside,
+  c.next_inside-o.ensures.bound,
+  c.next_inside-o.ensures.inside,
   λ h. c.empty-all.ensures h
-      ∙ sym (some_skip 0 c.next-inside-o.result (λ q. has c.args.set.now q && get_or (ranks c.args.self.now) q none c.args.side h) (omega arith)
-      (λ k a b. and_first (has c.args.set.now k) _ (c.next-inside-o.ensures.passed k a b))),
+      ∙ sym (some_skip 0 c.next_inside-o.result (λ q. has c.args.set.now q && get_or (ranks c.args.self.now) q none c.args.side h) (omega arith)
+      (λ k a b. and_first (has c.args.set.now k) _ (c.next_inside-o.ensures.passed k a b))),
 )
 
 pub loop-o-preserved : goal.loop-o-preserved
 loop-o-preserved c =
-    let r = c.next-inside-o-in-loop-o.result in
+    let r = c.next_inside-o-in-loop-o.result in
     let small : c.loop-o.o < 384 = search rules in
-    let x = c.next-inside-o-in-loop-o.ensures in (
+    let x = c.next_inside-o-in-loop-o.ensures in (
       x.bound,
       x.inside,
       λ h. gather_on (has c.union.new.self h) (has c.loop-o.all h) c.loop-o.o r (has c.args.set.now) (λ q. get_or (ranks c.args.self.now) q none c.args.side h)

@@ -8,8 +8,8 @@ use Rattle.sealing.proofs.Whole.{within_links, within_rows}
 use Rattle.sealing.proofs.Reducing.{reduced_self, reduced_then, compared_same}
 use Rattle.sealing.proofs.nodes.Nodes.bypass.Goals as goal
 
-pub bypass-at-rest-requires : goal.bypass-at-rest-requires
-bypass-at-rest-requires c = record {
+pub bypass_at-rest-requires : goal.bypass_at-rest-requires
+bypass_at-rest-requires c = record {
   there = search rules;
   within = within_rows c.args.self.now (by c.loop-a.rest) c.loop-a.invariant.0.within;
   known = compared_same (links c.args.self.now) (by c.args.moves.now) (by c.loop-a.rest) (vec_len c.args.self.now.rows) (by c.args.worse.now) c.loop-a.invariant.0.value c.requires.known;
@@ -23,10 +23,10 @@ loop-a-init c = (
 
 pub loop-a-preserved : goal.loop-a-preserved
 loop-a-preserved c = (
-  reduced_then (links c.args.self.now) c.args.side (by c.args.moves.now) (by c.loop-a.rest) (by c.bypass-at-rest.result) c.loop-a.invariant.0 c.bypass-at-rest.ensures.reduced,
+  reduced_then (links c.args.self.now) c.args.side (by c.args.moves.now) (by c.loop-a.rest) (by c.bypass_at-rest.result) c.loop-a.invariant.0 c.bypass_at-rest.ensures.reduced,
   λ k h t. elim (cases_eq k (c.loop-a.a - 1)) [
-    | inl e ↦ subst (λ i. Stays (links c.args.self.now) c.args.side (by c.args.worse.now) i) (sym e) (c.bypass-at-rest.ensures.stays (subst (λ i. by c.bypass-at-rest.result c.args.side i ≡ true) e t))
-    | inr d ↦ c.loop-a.invariant.1 k (omega arith) (sym (c.bypass-at-rest.ensures.above k (omega arith)) ∙ t)
+    | inl e ↦ subst (λ i. Stays (links c.args.self.now) c.args.side (by c.args.worse.now) i) (sym e) (c.bypass_at-rest.ensures.stays (subst (λ i. by c.bypass_at-rest.result c.args.side i ≡ true) e t))
+    | inr d ↦ c.loop-a.invariant.1 k (omega arith) (sym (c.bypass_at-rest.ensures.above k (omega arith)) ∙ t)
   ],
 )
 

@@ -29,8 +29,8 @@ loop-h-init c =
 pub loop-h-smaller : goal.loop-h-smaller
 loop-h-smaller c =
     let few : c.loop-h.h + 1 ≤ 384 = (let f = c.args.self.now.few in omega (arith, c.len.ensures, c.loop-h-test.true)) in
-    let a = c.next-outside-for-left.ensures.reach few in
-    let b = c.next-outside-for-right.ensures.reach few in
+    let a = c.next_outside-for_left.ensures.reach few in
+    let b = c.next_outside-for_right.ensures.reach few in
     let m : c.loop-h.h + 1 ≤ c.min-h.result = search rules in
     omega arith
 
@@ -43,14 +43,14 @@ loop-h-preserved c =
     let l = c.decide.ensures o inside c.loop-h.invariant.0 (partly_known (links t) (ranks t) Right o h (has c.loop-h.right.decided) (has c.loop-h.right.worse) c.loop-h.invariant.2 c.loop-h.invariant.3) in
     let still : Upto h (has c.decide.new.known.decided) = λ k u. l.still k (c.loop-h.invariant.1 k u) in
     let r = c.decide-in-loop-h.ensures o inside c.loop-h.invariant.2 (partly_known (links t) (ranks t) Left o h (has c.decide.new.known.decided) (has c.decide.new.known.worse) l.known still) in
-    let low_left : c.min-h.result ≤ c.next-outside-for-left.result = search rules in
-    let low_right : c.min-h.result ≤ c.next-outside-for-right.result = search rules in (
+    let low_left : c.min-h.result ≤ c.next_outside-for_left.result = search rules in
+    let low_right : c.min-h.result ≤ c.next_outside-for_right.result = search rules in (
       l.known,
-      upto_next (has c.decide.new.known.decided) h c.next-outside-for-left.result c.min-h.result
-          (upto_more (links t) (ranks t) Left o h (has c.loop-h.left.decided) (has c.decide.new.known.decided) (has c.decide.new.known.worse) l c.loop-h.invariant.1) c.next-outside-for-left.ensures low_left,
+      upto_next (has c.decide.new.known.decided) h c.next_outside-for_left.result c.min-h.result
+          (upto_more (links t) (ranks t) Left o h (has c.loop-h.left.decided) (has c.decide.new.known.decided) (has c.decide.new.known.worse) l c.loop-h.invariant.1) c.next_outside-for_left.ensures low_left,
       r.known,
-      upto_next (has c.decide-in-loop-h.new.known.decided) h c.next-outside-for-right.result c.min-h.result
-          (upto_more (links t) (ranks t) Right o h (has c.loop-h.right.decided) (has c.decide-in-loop-h.new.known.decided) (has c.decide-in-loop-h.new.known.worse) r c.loop-h.invariant.3) c.next-outside-for-right.ensures low_right,
+      upto_next (has c.decide-in-loop-h.new.known.decided) h c.next_outside-for_right.result c.min-h.result
+          (upto_more (links t) (ranks t) Right o h (has c.loop-h.right.decided) (has c.decide-in-loop-h.new.known.decided) (has c.decide-in-loop-h.new.known.worse) r c.loop-h.invariant.3) c.next_outside-for_right.ensures low_right,
     )
 
 pub returns : goal.returns

@@ -15,10 +15,10 @@ returns-in-Less c = record {
   within = omega arith;
   before = c.loop-i.invariant;
   after = λ _. place_less c.args.self.now c.args.listing.now c.args.k c.requires.there c.requires.below c.requires.complete c.requires.rises c.loop-i.i c.loop-i-test.true
-      c.index-row.result.now c.index.result.now c.index-row.ensures c.index.ensures c.order-pairs.result c.order-pairs.ensures c.in-Less.is;
+      c.index-row.result.now c.index.result.now c.index-row.ensures c.index.ensures c.order_pairs.result c.order_pairs.ensures c.in-Less.is;
 }
 
 pub loop-i-preserved : goal.loop-i-preserved
 loop-i-preserved c = below_more (λ j. node (links c.args.self.now) (get_or c.args.listing.now j 0) ≺ node (links c.args.self.now) c.args.k) c.loop-i.i c.loop-i.invariant
     (place_more c.args.self.now c.args.listing.now c.args.k c.requires.there c.requires.below c.requires.complete c.requires.rises c.loop-i.i c.loop-i-test.true
-    c.index-row.result.now c.index.result.now c.index-row.ensures c.index.ensures c.order-pairs.result c.order-pairs.ensures c.in-default.not-Less)
+    c.index-row.result.now c.index.result.now c.index-row.ensures c.index.ensures c.order_pairs.result c.order_pairs.ensures c.in_default.not-Less)

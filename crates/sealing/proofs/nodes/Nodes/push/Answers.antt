@@ -15,14 +15,14 @@ use Rattle.sealing.proofs.Whole.{count_rows, within_links, compared_links}
 use Rattle.sealing.proofs.Growing.{lower_more, ranked_more, canonical_more, apart_more}
 use Rattle.sealing.proofs.nodes.Nodes.push.Goals as goal
 
-module _ (c : goal.After-push-reserved) where
-  options_are : options_of (vec_items c.push-reserved.new.self) ≡ links c.args.self.now ++ (by c.args.form.now ∷ [])
+module _ (c : goal.After-push_reserved) where
+  options_are : options_of (vec_items c.push_reserved.new.self) ≡ links c.args.self.now ++ (by c.args.form.now ∷ [])
   options_are =
-      ap options_of c.push-reserved.ensures.items ∙ map_push (λ (r : Row). by r.options) (vec_items c.rank-under.new.rows) _
-      ∙ ap (λ (os : List Sets). os ++ (by c.args.form.now ∷ [])) c.rank-under.ensures.ranks.options
+      ap options_of c.push_reserved.ensures.items ∙ map_push (λ (r : Row). by r.options) (vec_items c.rank_under.new.rows) _
+      ∙ ap (λ (os : List Sets). os ++ (by c.args.form.now ∷ [])) c.rank_under.ensures.ranks.options
 
-  worse_are : worse_of (vec_items c.push-reserved.new.self) ≡ worse_of (vec_items c.rank-under.new.rows) ++ (by c.insert-2.new.self ∷ [])
-  worse_are = ap worse_of c.push-reserved.ensures.items ∙ map_push (λ (r : Row). by r.worse) (vec_items c.rank-under.new.rows) _
+  worse_are : worse_of (vec_items c.push_reserved.new.self) ≡ worse_of (vec_items c.rank_under.new.rows) ++ (by c.insert-2.new.self ∷ [])
+  worse_are = ap worse_of c.push_reserved.ensures.items ∙ map_push (λ (r : Row). by r.worse) (vec_items c.rank_under.new.rows) _
 
   small : length (links c.args.self.now) < 384
   small = let e = count_rows c.args.self.now in let h = c.requires.room in omega arith
@@ -30,13 +30,13 @@ module _ (c : goal.After-push-reserved) where
   number_is : c.len-number.result ≡ length (links c.args.self.now)
   number_is = c.len-number.ensures ∙ count_rows c.args.self.now
 
-  same : length (worse_of (vec_items c.rank-under.new.rows)) ≡ length (links c.args.self.now)
-  same = length-map (vec_items c.rank-under.new.rows) (λ (r : Row). by r.worse) ∙ c.rank-under.ensures.ranks.len ∙ sym (length-map (vec_items c.args.self.now.rows) (λ (r : Row). by r.options))
+  same : length (worse_of (vec_items c.rank_under.new.rows)) ≡ length (links c.args.self.now)
+  same = length-map (vec_items c.rank_under.new.rows) (λ (r : Row). by r.worse) ∙ c.rank_under.ensures.ranks.len ∙ sym (length-map (vec_items c.args.self.now.rows) (λ (r : Row). by r.options))
 
   old : (i : ℕ) (s : Side) (k : ℕ) → i < length (links c.args.self.now)
-      → get_or (worse_of (vec_items c.rank-under.new.rows)) i none s k ≡ ((eqb k (length (links c.args.self.now)) && by c.args.worse.now (other s) i) || get_or (ranks c.args.self.now) i none s k)
+      → get_or (worse_of (vec_items c.rank_under.new.rows)) i none s k ≡ ((eqb k (length (links c.args.self.now)) && by c.args.worse.now (other s) i) || get_or (ranks c.args.self.now) i none s k)
   old i s k h =
-      c.rank-under.ensures.ranks.new i s k (subst (λ n. i < n) (sym (count_rows c.args.self.now)) h)
+      c.rank_under.ensures.ranks.new i s k (subst (λ n. i < n) (sym (count_rows c.args.self.now)) h)
       ∙ ap (λ (n : ℕ). ((eqb k n && ltb k 384) && by c.args.worse.now (other s) i) || get_or (ranks c.args.self.now) i none s k) (count_rows c.args.self.now)
       ∙ ap (λ (b : Bool). (b && by c.args.worse.now (other s) i) || get_or (ranks c.args.self.now) i none s k) (small_same k (length (links c.args.self.now)) small)
 
@@ -46,20 +46,20 @@ module _ (c : goal.After-push-reserved) where
       c.insert-2.ensures.own_val k ∙ ap₂ (λ (n : ℕ) (b : Bool). (eqb k n && ltb k 384) || b) number_is (c.insert.ensures.theirs k)
       ∙ ap (λ (b : Bool). b || by c.args.worse.now Right k) (small_same k (length (links c.args.self.now)) small)
 
-pub invariant-of-self : goal.invariant-of-self
-invariant-of-self c =
+pub invariant_of-self : goal.invariant_of-self
+invariant_of-self c =
     let t = c.args.self.now in
     let o = by c.args.form.now in
     let w = by c.args.worse.now in
-    let ranked = ranked_more (links t) (ranks t) (worse_of (vec_items c.rank-under.new.rows)) o w (by c.insert-2.new.self) (same c) t.ranked (compared_links t o w c.requires.known) (old c) (own c) in
-    let kept : vec_len c.rank-under.new.rows ≡ vec_len t.rows = (let e = c.rank-under.ensures.ranks.len in search rules) in (
-      (let a = c.push-reserved.ensures.len in let h = c.requires.room in omega arith),
+    let ranked = ranked_more (links t) (ranks t) (worse_of (vec_items c.rank_under.new.rows)) o w (by c.insert-2.new.self) (same c) t.ranked (compared_links t o w c.requires.known) (old c) (own c) in
+    let kept : vec_len c.rank_under.new.rows ≡ vec_len t.rows = (let e = c.rank_under.ensures.ranks.len in search rules) in (
+      (let a = c.push_reserved.ensures.len in let h = c.requires.room in omega arith),
       (
-        (let a = c.push-reserved.ensures.capacity in let b = c.rank-under.ensures.capacity in let r = t.reserved in omega arith),
+        (let a = c.push_reserved.ensures.capacity in let b = c.rank_under.ensures.capacity in let r = t.reserved in omega arith),
         (
           subst (λ os. Lower os) (sym (options_are c)) (lower_more (links t) o t.lower (within_links t o c.requires.within)),
           (
-            subst (λ os. Ranked os (worse_of (vec_items c.push-reserved.new.self))) (sym (options_are c)) (subst (λ ws. Ranked (links t ++ (o ∷ [])) ws) (sym (worse_are c)) ranked),
+            subst (λ os. Ranked os (worse_of (vec_items c.push_reserved.new.self))) (sym (options_are c)) (subst (λ ws. Ranked (links t ++ (o ∷ [])) ws) (sym (worse_are c)) ranked),
             (
               subst (λ os. AllCanonical os) (sym (options_are c)) (canonical_more (links t) o t.canonical c.requires.canonical),
               (
@@ -74,5 +74,5 @@ invariant-of-self c =
 
 pub returns : goal.returns
 returns c =
-    ap options_of c.push-reserved.ensures.items ∙ map_push (λ (r : Row). by r.options) (vec_items c.rank-under.new.rows) _
-    ∙ ap (λ (os : List Sets). os ++ (by c.args.form.now ∷ [])) c.rank-under.ensures.ranks.options
+    ap options_of c.push_reserved.ensures.items ∙ map_push (λ (r : Row). by r.options) (vec_items c.rank_under.new.rows) _
+    ∙ ap (λ (os : List Sets). os ++ (by c.args.form.now ∷ [])) c.rank_under.ensures.ranks.options

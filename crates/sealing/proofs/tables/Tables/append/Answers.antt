@@ -39,8 +39,8 @@ place-place-requires c =
       rises = subst (λ ks. Rises (links c.push.new.self) ks) (sym c.deref.ensures.value) (rises_then _ _ (by c.args.form.now) _ c.push.ensures l);
     }
 
-pub invariant-of-self : goal.invariant-of-self
-invariant-of-self c =
+pub invariant_of-self : goal.invariant_of-self
+invariant_of-self c =
     let t = c.args.self.now in
     let o = by c.args.form.now in
     let ok : is_ok c.insert.result ≡ true = c.insert.ensures.succeeds (room t c.push.new.self o c.push.ensures) in

@@ -5,8 +5,8 @@ use Rattle.sealing.specs.Seals.{row_of}
 use Rattle.sealing.proofs.Sealing.{count_is, no_row, fresh_row}
 use Rattle.sealing.proofs.tables.Tables.extend.Goals as goal
 
-pub returns-in-default : goal.returns-in-default
-returns-in-default c = (refl, inl (no_row c.args.self.now (by c.args.moves.now) c.find.result c.find.ensures.seals c.in-default.not-New))
+pub returns-in_default : goal.returns-in_default
+returns-in_default c = (refl, inl (no_row c.args.self.now (by c.args.moves.now) c.find.result c.find.ensures.seals c.in_default.not-New))
 
 pub returns-then-number-eq-NODES : goal.returns-then-number-eq-NODES
 returns-then-number-eq-NODES c = (refl, inr (let a = c.count-number.ensures ∙ count_is c.args.self.now in let b = c.if-number-eq-NODES.true in omega arith))

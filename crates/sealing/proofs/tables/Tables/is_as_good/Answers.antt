@@ -7,5 +7,5 @@ use Rattle.sealing.proofs.tables.Tables.is_as_good.Goals as goal
 
 pub returns : goal.returns
 returns c =
-    c.is-as-good.ensures
+    c.is_as_good.ensures
     ∙ ap (λ n. (ltb c.args.a n && ltb c.args.b n) && as_good c.args.side (node_of c.args.self.now c.args.a) (node_of c.args.self.now c.args.b)) (sym (count_links c.args.self.now))

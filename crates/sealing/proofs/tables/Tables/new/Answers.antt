@@ -6,12 +6,12 @@ use Rattle.sealing.proofs.Whole.{count_rows}
 use Rattle.sealing.proofs.Kept.{listing_none}
 use Rattle.sealing.proofs.tables.Tables.new.Goals as goal
 
-pub invariant-of-result : goal.invariant-of-result
-invariant-of-result c =
-    let e : links c.in-ok-nodes.nodes ≡ _ = c.in-ok-nodes.ensures in
-    let n = count_rows c.in-ok-nodes.nodes ∙ ap length e in
-    let l = listing_none (links c.in-ok-nodes.nodes) (vec_items c.in-ok-listing.listing) e (search rules) in
-    (search rules, ((let m : vec_len c.in-ok-listing.listing ≡ 0 = search rules in m ∙ sym n), (l.below, (l.complete, (l.rises, tt)))))
+pub invariant_of-result : goal.invariant_of-result
+invariant_of-result c =
+    let e : links c.in_ok-nodes.nodes ≡ _ = c.in_ok-nodes.ensures in
+    let n = count_rows c.in_ok-nodes.nodes ∙ ap length e in
+    let l = listing_none (links c.in_ok-nodes.nodes) (vec_items c.in_ok-listing.listing) e (search rules) in
+    (search rules, ((let m : vec_len c.in_ok-listing.listing ≡ 0 = search rules in m ∙ sym n), (l.below, (l.complete, (l.rises, tt)))))
 
 pub returns : goal.returns
-returns c = ap (map (in_order (vec_items c.in-ok-listing.listing))) c.in-ok-nodes.ensures
+returns c = ap (map (in_order (vec_items c.in_ok-listing.listing))) c.in_ok-nodes.ensures

@@ -5,5 +5,5 @@ use Rattle.hackenbush.specs.Reading.{few}
 use Rattle.hackenbush.proofs.Moves.{rank_is}
 use Rattle.hackenbush.proofs.picture.rules.PictureRuleset.rank.Goals as goal
 
-pub returns-then-is-legal : goal.returns-then-is-legal
-returns-then-is-legal c = c.count-bits.ensures ∙ rank_is (edges_of c.args.self.now) (few c.args.self.now) c.args.code (sym c.if-is-legal.ensures)
+pub returns-then-is_legal : goal.returns-then-is_legal
+returns-then-is_legal c = c.count_bits.ensures ∙ rank_is (edges_of c.args.self.now) (few c.args.self.now) c.args.code (sym c.if-is_legal.ensures)

@@ -2,7 +2,7 @@ use Rattle.std.proofs.Common.{length, sym, refl, ap, ◌∙◌, arith}
 use Rattle.hashed_store.proofs.Chains.{begins_none, goes_on_none}
 use Rattle.hashed_store.proofs.table.calls.HashTableStore.clear.Goals as goal
 
-pub invariant-of-self : goal.invariant-of-self
-invariant-of-self c =
+pub invariant_of-self : goal.invariant_of-self
+invariant_of-self c =
     let h = c.clear.ensures.rows in
     (omega arith, (c.clear-2.ensures.len ∙ sym (ap length h), (refl, (begins_none _ _ h refl, (goes_on_none _ _ h, tt)))))

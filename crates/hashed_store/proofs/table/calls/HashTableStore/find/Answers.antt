@@ -9,7 +9,7 @@ use Rattle.hashed_store.proofs.table.calls.HashTableStore.find.Goals.{then_same,
 pub loop-next-init : goal.loop-next-init
 loop-next-init c =
     let rows = rows_in c.args.self.now.list in
-    walk_start rows (lists_of c.args.row.now) _ (c.args.self.now.begins _ c.chain-of.ensures.below ∙ ap (λ h. latest rows h (length rows)) c.chain-of.ensures.chain)
+    walk_start rows (lists_of c.args.row.now) _ (c.args.self.now.begins _ c.chain_of.ensures.below ∙ ap (λ h. latest rows h (length rows)) c.chain_of.ensures.chain)
 
 pub loop-next-smaller : goal.loop-next-smaller
 loop-next-smaller c =
@@ -25,4 +25,4 @@ loop-next-preserved c =
     ]
 
 pub returns : goal.returns
-returns c = walk_ends _ _ _ _ c.loop-next.invariant c.in-default.is
+returns c = walk_ends _ _ _ _ c.loop-next.invariant c.in_default.is
