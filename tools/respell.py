@@ -38,13 +38,13 @@ def imported_from_outside(text, crates):
     return names
 
 
-def respell(text, table, members, kept):
+def respell(text, table, members, kept, answers):
     def word(m):
         parts = m.group(0).split(".")
         out = []
         for i, part in enumerate(parts):
             alone = i == 0
-            step = i == 1 and parts[0] in ("c", "l", "a", "w")
+            step = answers and i == 1 and parts[0] in ("c", "l")
             # a bare name, or a field or constructor behind a dot
             if part in table and part not in kept and (alone or (part in members and not step)):
                 part = table[part]
@@ -74,7 +74,8 @@ def main():
                 text = f.read()
             here = table | OWN.get(path, {})
             kept = imported_from_outside(text, crates)
-            turn = lambda t: respell(t, here, members, kept)
+            answers = name in ("Answers.antt", "Invariants.antt", "Proof.antt")
+            turn = lambda t: respell(t, here, members, kept, answers)
             new = turn(text) if name.endswith(".antt") else outside_strings(text, turn)
             if new != text:
                 count += 1

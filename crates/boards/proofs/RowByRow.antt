@@ -109,7 +109,7 @@ outcome_more s row rows (Some t) u h =
     let k = h.count in
     record {
       suits = ⊎_elim (λ z. inl z) (λ e. inr (e ∙ same)) u;
-      are_even = and_from (eqb (long row) t.columns) _ (eq-eqb _ _ same) h.are-even;
+      are_even = and_from (eqb (long row) t.columns) _ (eq-eqb _ _ same) h.are_even;
       count = omega arith;
       coded =
           h.coded

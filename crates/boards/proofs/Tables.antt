@@ -61,11 +61,11 @@ module _ (text : List ℕ) (rows : Items (Items Square)) (e : text ≡ items_of 
     were = outcome (Some t) r
 
     columns_are : long rows.first ≡ t.columns
-    columns_are = eqb-true _ _ (and_parts (eqb (long rows.first) t.columns) (even t.columns rows.more) were.are-even).0
+    columns_are = eqb-true _ _ (and_parts (eqb (long rows.first) t.columns) (even t.columns rows.more) were.are_even).0
 
     rows_are : t.squares / t.columns ≡ length (all rows)
     rows_are =
-        let n = even_count t.columns (all rows) were.are-even in
+        let n = even_count t.columns (all rows) were.are_even in
         let k = were.count in
         let q : t.squares ≡ length (all rows) * t.columns + 0 = omega arith in
         ap (λ m. m / t.columns) q ∙ div-mul-add (length (all rows)) t.columns 0 (rows_long text t r)
@@ -79,7 +79,7 @@ module _ (text : List ℕ) (rows : Items (Items Square)) (e : text ≡ items_of 
     pub board_set : (R : Rules) → sized (t.squares / t.columns) t.columns ≡ true → R ≡ domineering-rules (t.squares / t.columns) t.columns → meaning (domineering rows) ≡ at_code R t.code
     board_set R s p =
         cond-true (rows_fit rows) (Some (rows_position rows)) None
-        (and_from (even (long rows.first) (all rows)) _ (ap (λ c. even c (all rows)) columns_are ∙ were.are-even) (sym size_is ∙ s))
+        (and_from (even (long rows.first) (all rows)) _ (ap (λ c. even c (all rows)) columns_are ∙ were.are_even) (sym size_is ∙ s))
         ∙ same_position (sym (p ∙ ap₂ domineering-rules rows_are (sym columns_are))) (sym code_is)
 
     pub board_refused : sized (t.squares / t.columns) t.columns ≡ false → meaning (domineering rows) ≡ None

@@ -16,7 +16,7 @@ use Rattle.calculator.specs.declared.fault.CalculatorFault.TheVariants.{LongLine
 abbrev pub number_of : CalculatorFault → ℕ
 number_of LongLine = 13
 number_of (Line f) = number_of_fault f
-number_of (Board i f) = Rulesets.fault-number f
+number_of (Board i f) = Rulesets.fault_number f
 number_of (Illegal i) = 4
 number_of (Position i f) = Valuing.number_of f
 number_of (Text i f) = read_number f

@@ -73,7 +73,7 @@ grows_then {a} {b} {d} {es} {fs} g h = record { sound = λ s. h.sound (g.sound s
 -- a seal
 seals_right : {c : ℕ} {a b : Rows} {g : Form} {n : ℕ} → Seals c a g (told n) b → Correct b (entry n g)
 seals_right (found n k e) = record { inside = k; equals = e }
-seals_right {a = a} (added new r b c w k) = record { inside = let l = length-append a (r ∷ []) in omega arith; equals = ≈_trans (≡_≈ (node_new a r)) c.same-value }
+seals_right {a = a} (added new r b c w k) = record { inside = let l = length-append a (r ∷ []) in omega arith; equals = ≈_trans (≡_≈ (node_new a r)) c.same_value }
 
 seals_covers : {c : ℕ} {a b : Rows} {g : Form} {r : Answer ℕ} → Seals c a g r b → (n : ℕ) → n < length b → (n < length a) ⊎ Answered (made r g) n
 seals_covers (found m l e) n k = inl k

@@ -111,7 +111,7 @@ pub same_row : (rows : Rows) → Sound rows → (r q : Lists) → Below (length 
 same_row rows s r q a b e =
     let x : each (node rows) r.left ≡ each (node rows) q.left = cc in
     let y : each (node rows) r.right ≡ each (node rows) q.right = cc in
-    ap₂ (λ l m. record { left = l; right = m }) (same_numbers rows s r.left q.left a.on-left b.on_left x) (same_numbers rows s r.right q.right a.on-right b.on_right y)
+    ap₂ (λ l m. record { left = l; right = m }) (same_numbers rows s r.left q.left a.on_left b.on_left x) (same_numbers rows s r.right q.right a.on_right b.on_right y)
 
 pub seals_one : {c : ℕ} {rows b d : Rows} {g : Form} {r q : Answer ℕ} → Sound rows → Seals c rows g r b → Seals c rows g q d → (r ≡ q) × (b ≡ d)
 seals_one s (found n k e) (found m l f) = (ap told (s.unlike n m k l (≈_trans e (≈_sym f))), refl)

@@ -93,7 +93,7 @@ sound_added a r s b c w new = record { lower = lower; canonical = can; narrow = 
 
 pub seals_sound : {c : ℕ} {a b : Rows} {g : Form} {r : Answer ℕ} → Sound a → Seals c a g r b → Sound b
 seals_sound s (found n k e) = s
-seals_sound {a = a} s (added new r b c w k) = sound_added a r s b c.is-canonical w (λ n l e. new n l (≈_trans e c.same-value))
+seals_sound {a = a} s (added new r b c w k) = sound_added a r s b c.is_canonical w (λ n l e. new n l (≈_trans e c.same_value))
 seals_sound s (too_wide new h c w) = s
 seals_sound s (no_place new h c w k) = s
 
@@ -106,9 +106,9 @@ seals_extends {a = a} (no_place new h c w k) = extends_refl a
 -- sealing goes by value only
 pub seals_≈ : {c : ℕ} {a b : Rows} {g h : Form} {r : Answer ℕ} → g ≈ h → Seals c a g r b → Seals c a h r b
 seals_≈ v (found n k e) = found n k (≈_trans e v)
-seals_≈ v (added new r b c w k) = added (λ n l e. new n l (≈_trans e (≈_sym v))) r b (record { is_canonical = c.is-canonical; same_value = ≈_trans c.same-value v }) w k
-seals_≈ v (too_wide new h c w) = too_wide (λ n l e. new n l (≈_trans e (≈_sym v))) h (record { is_canonical = c.is-canonical; same_value = ≈_trans c.same-value v }) w
-seals_≈ v (no_place new h c w k) = no_place (λ n l e. new n l (≈_trans e (≈_sym v))) h (record { is_canonical = c.is-canonical; same_value = ≈_trans c.same-value v }) w k
+seals_≈ v (added new r b c w k) = added (λ n l e. new n l (≈_trans e (≈_sym v))) r b (record { is_canonical = c.is_canonical; same_value = ≈_trans c.same_value v }) w k
+seals_≈ v (too_wide new h c w) = too_wide (λ n l e. new n l (≈_trans e (≈_sym v))) h (record { is_canonical = c.is_canonical; same_value = ≈_trans c.same_value v }) w
+seals_≈ v (no_place new h c w k) = no_place (λ n l e. new n l (≈_trans e (≈_sym v))) h (record { is_canonical = c.is_canonical; same_value = ≈_trans c.same_value v }) w k
 
 -- a form that equals a node is answered that node, and nothing is added
 pub seals_found : {c : ℕ} {a b : Rows} {g : Form} {r : Answer ℕ} → Sound a → (k : Node a g) → Seals c a g r b → (r ≡ told k.at) × (b ≡ a)

@@ -83,7 +83,7 @@ module _ (rows : Rows) (l : Lists) where
     pub walk_passed : (row_at rows n ≡ l → ⊥) → Walk rows l next found
     walk_passed no-match =
         walk_from n next found onward (omega (arith, w.within))
-        (lowest_down rows l n (suc n) found (omega arith) (λ k a b e. let same : k ≡ n = omega arith in no-match (ap (row_at rows) (sym same) ∙ e)) w.lowest-so-far)
+        (lowest_down rows l n (suc n) found (omega arith) (λ k a b e. let same : k ≡ n = omega arith in no-match (ap (row_at rows) (sym same) ∙ e)) w.lowest_so_far)
 
 -- the same step, of what the code holds
 module _ (rows : Rows) (l : Lists) (lowers : List (Option ℕ)) (level : length lowers ≡ length rows) (goes : GoesOn rows lowers)
@@ -113,7 +113,7 @@ module _ (rows : Rows) (l : Lists) (lowers : List (Option ℕ)) (level : length 
 
 -- where the chain ends, the lowest has been found
 pub walk_ends : (rows : Rows) (l : Lists) (next found : Option ℕ) → Walk rows l next found → next ≡ None → found ≡ lowest rows l
-walk_ends rows l next found w e = lowest_is rows l found (subst (λ x. LowestFrom rows l (reach x) found) e w.lowest-so-far)
+walk_ends rows l next found w e = lowest_is rows l found (subst (λ x. LowestFrom rows l (reach x) found) e w.lowest_so_far)
 
 -- ---- one row more
 

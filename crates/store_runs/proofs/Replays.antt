@@ -22,16 +22,16 @@ module _ (rows : Rows) (room : ℕ) (calls : List StoreCall) (before : List Stor
         x ≡ answer_to rows' room' call → rows'' ≡ rows_after rows' room' call → room'' ≡ room' → now-answers ≡ so_far ++ x ∷ [] →
         Run rows room calls before (i + 1) rows'' room'' now-answers
     run_more call rows'' room'' now-answers x h read told after same pushed = record {
-      same_room = same ∙ w.same-room;
+      same_room = same ∙ w.same_room;
       all_answers =
-          ap (λ r. now-answers ++ answers_to r room (drop (i + 1) calls)) (after ∙ ap (λ m. rows_after rows' m call) w.same-room)
-          ∙ ap (λ s. s ++ rest) (pushed ∙ ap (λ y. so_far ++ y ∷ []) (told ∙ ap (λ m. answer_to rows' m call) w.same-room))
+          ap (λ r. now-answers ++ answers_to r room (drop (i + 1) calls)) (after ∙ ap (λ m. rows_after rows' m call) w.same_room)
+          ∙ ap (λ s. s ++ rest) (pushed ∙ ap (λ y. so_far ++ y ∷ []) (told ∙ ap (λ m. answer_to rows' m call) w.same_room))
           ∙ append_assoc so_far (answer_to rows' room call ∷ []) rest
           ∙ ap (λ a. so_far ++ a) (sym answers_next)
-          ∙ w.all-answers;
+          ∙ w.all_answers;
       all_rows =
-          ap (λ r. rows_at_end r room (drop (i + 1) calls)) (after ∙ ap (λ m. rows_after rows' m call) w.same-room)
-          ∙ sym rows_next ∙ w.all-rows;
+          ap (λ r. rows_at_end r room (drop (i + 1) calls)) (after ∙ ap (λ m. rows_after rows' m call) w.same_room)
+          ∙ sym rows_next ∙ w.all_rows;
     }
       where
         rest : List StoreAnswer
@@ -45,6 +45,6 @@ module _ (rows : Rows) (room : ℕ) (calls : List StoreCall) (before : List Stor
 
     pub run_ends : length calls ≤ i → (so_far ≡ before ++ answers_to rows room calls) × (rows' ≡ rows_at_end rows room calls)
     run_ends h = (
-      sym (append-nil so_far) ∙ ap (λ a. so_far ++ a) (sym (at_drop_all (answers_to rows' room) calls i h)) ∙ w.all-answers,
-      sym (at_drop_all (rows_at_end rows' room) calls i h) ∙ w.all-rows,
+      sym (append-nil so_far) ∙ ap (λ a. so_far ++ a) (sym (at_drop_all (answers_to rows' room) calls i h)) ∙ w.all_answers,
+      sym (at_drop_all (rows_at_end rows' room) calls i h) ∙ w.all_rows,
     )

@@ -49,16 +49,16 @@ module _ (A B : Rules) where
   -- the numbers that the code has: the codes a and b of the code n, and base, the limit of the second part
   module _ (s : Side) (n a b base : ℕ) (told : ◌≡◌ {A = Option (ℕ × ℕ)} (Some (a, b)) (part_codes A B n)) (limit_is : base ≡ B.limit) where
     moves_are : (plus A B).moves s n ≡ map (λ m. m * base + b) (A.moves s a) ++ map (λ m. a * base + m) (B.moves s b)
-    moves_are = let p = parted n a b told in rw (p.first-is, p.second_is, limit_is) (moves_at A B s n p.legal-sum)
+    moves_are = let p = parted n a b told in rw (p.first_is, p.second_is, limit_is) (moves_at A B s n p.legal_sum)
 
     pub counted : length ((plus A B).moves s n) ≡ length (A.moves s a) + length (B.moves s b)
-    counted = let p = parted n a b told in rw (p.first-is, p.second_is) (ap length (moves_at A B s n p.legal-sum) ∙ count_both A B s (first_code B n) (second_code B n))
+    counted = let p = parted n a b told in rw (p.first_is, p.second_is) (ap length (moves_at A B s n p.legal_sum) ∙ count_both A B s (first_code B n) (second_code B n))
 
     module _ (i m : ℕ) (there : Some m ≡ slice_get (A.moves s a) i) where
       pub first_fits : Lawful A → Lawful B → m * base + b < 2 ^ 64
       first_fits la lb =
           let p = parted n a b told in
-          let k = both A B n p.legal-sum in
+          let k = both A B n p.legal_sum in
           let d = digits_lt (la.below m (successor_falls A la s a i m there).0) (lb.below (second_code B n) k.second) in
           let f = (fit A B k.fitting).limits in
           rw (p.second_is, limit_is) (omega arith)
@@ -79,7 +79,7 @@ module _ (A B : Rules) where
     pub second_fits : Lawful A → Lawful B → (j m : ℕ) → Some m ≡ slice_get (B.moves s b) j → a * base + m < 2 ^ 64
     second_fits la lb j m there =
         let p = parted n a b told in
-        let k = both A B n p.legal-sum in
+        let k = both A B n p.legal_sum in
         let d = digits_lt (la.below (first_code B n) k.first) (lb.below m (successor_falls B lb s b j m there).0) in
         let f = (fit A B k.fitting).limits in
-        rw (p.first-is, limit_is) (omega arith)
+        rw (p.first_is, limit_is) (omega arith)

@@ -15,16 +15,16 @@ use Rattle.sums.specs.Sums.{minus, fits, first_code, second_code, code_of, legal
 
 pub minus_lawful : (R : Rules) → Lawful R → Lawful (minus R)
 minus_lawful R l = record {
-  limit_low = l.limit-low;
-  limit_high = l.limit-high;
-  width_high = l.width-high;
-  depth_high = l.depth-high;
+  limit_low = l.limit_low;
+  limit_high = l.limit_high;
+  width_high = l.width_high;
+  depth_high = l.depth_high;
   below = l.below;
   shallow = l.shallow;
-  no_rank = l.no-rank;
+  no_rank = l.no_rank;
   narrow = λ s n. l.narrow (other s) n;
   falls = λ s n. l.falls (other s) n;
-  no_moves = λ s n. l.no-moves (other s) n;
+  no_moves = λ s n. l.no_moves (other s) n;
 }
 
 and_both : (a b : Bool) → (a && b) ≡ true → (a ≡ true) × (b ≡ true)

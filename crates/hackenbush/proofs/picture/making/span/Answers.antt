@@ -10,15 +10,15 @@ pub loop-edge-init : goal.loop-edge-init
 loop-edge-init c v = rw (bit_none v)
 
 pub overflow_shl-set : goal.overflow_shl-set
-overflow_shl-set c = omega (arith, (near_at c.args.edges.now c.loop-edge.edge_index _ c.requires (slice_get-get_or c.args.edges.now c.loop-edge.edge_index blank c.loop-edge-test.true)).0)
+overflow_shl-set c = omega (arith, (near_at c.args.edges.now c.loop-edge.edge-index _ c.requires (slice_get-get_or c.args.edges.now c.loop-edge.edge-index blank c.loop-edge-test.true)).0)
 
 pub overflow_shl-set-in-loop-edge : goal.overflow_shl-set-in-loop-edge
-overflow_shl-set-in-loop-edge c = omega (arith, (near_at c.args.edges.now c.loop-edge.edge_index _ c.requires (slice_get-get_or c.args.edges.now c.loop-edge.edge_index blank c.loop-edge-test.true)).1)
+overflow_shl-set-in-loop-edge c = omega (arith, (near_at c.args.edges.now c.loop-edge.edge-index _ c.requires (slice_get-get_or c.args.edges.now c.loop-edge.edge-index blank c.loop-edge-test.true)).1)
 
 pub loop-edge-preserved : goal.loop-edge-preserved
 loop-edge-preserved c =
-    let n = near_at c.args.edges.now c.loop-edge.edge_index _ c.requires (slice_get-get_or c.args.edges.now c.loop-edge.edge_index blank c.loop-edge-test.true) in
-    span_more c.args.edges.now c.loop-edge.set c.loop-edge.edge_index c.loop-edge.invariant c.loop-edge-test.true (omega (arith, n.0)) (omega (arith, n.1))
+    let n = near_at c.args.edges.now c.loop-edge.edge-index _ c.requires (slice_get-get_or c.args.edges.now c.loop-edge.edge-index blank c.loop-edge-test.true) in
+    span_more c.args.edges.now c.loop-edge.set c.loop-edge.edge-index c.loop-edge.invariant c.loop-edge-test.true (omega (arith, n.0)) (omega (arith, n.1))
 
 pub returns : goal.returns
-returns c = span_all c.args.edges.now c.loop-edge.set c.loop-edge.edge_index c.loop-edge.invariant c.loop-edge-test.false
+returns c = span_all c.args.edges.now c.loop-edge.set c.loop-edge.edge-index c.loop-edge.invariant c.loop-edge-test.false
