@@ -2,7 +2,7 @@
 -- Assumes nothing.
 use Rattle.std.proofs.Common.{◌≡◌, ℕ, zero, suc, ◌+◌, ◌-◌, ◌<◌, ◌≤◌, Bool, true, false, eqb, ◌⊎◌, List, [], ◌∷◌, ◌++◌, length, get_or, Some, None, Ordering, Less, Equal, Greater, sym, refl, ap, ◌∙◌, subst, inl, inr, arith}
 use Rattle.std.specs.Ordering.{ordering_then, ordering_reverse, is_lt, nat_cmp}
-use Rattle.std.specs.Cmp.{nat_cmp_total, pairs, then_total, on_total}
+use Rattle.std.specs.Cmp.{IsTotalOrder, nat_cmp_total, then_total, on_total}
 use Rattle.std.specs.List.{insert}
 use Rattle.std.proofs.lemmas.List.{get_or_append_left, get_or_push, length_push, get_or_read}
 use Rattle.std.proofs.lemmas.List.Edits.{length-insert, get_or-insert_below, get_or-insert_at, get_or-insert_above}
@@ -15,7 +15,7 @@ use Rattle.stores.proofs.Order.{list_order_is, not_less, cases_ordering, then_eq
 use Rattle.ordered_store.specs.Rising.{entry_order, holds, HaveRows, HoldsAll, Rises, ComesFirst, Belongs}
 use Rattle.stores.proofs.Appends.{Taken}
 use Rattle.stores.proofs.Lowest.{NoneAt, lowest_is, same_decides}
-use Rattle.std.specs.Cmp.Lexicographic.{slice_cmp, lists_total}
+use Rattle.std.specs.Cmp.Lexicographic.{slice_cmp, nat_list_cmp_total}
 
 -- a row with its number, as a key of a total order of std
 abbrev Key : Type 0
@@ -27,6 +27,9 @@ key l n = ((l.left, l.right), n)
 abbrev order : Key → Key → Ordering
 order = (λ x y. ordering_then (ordering_then ((slice_cmp nat_cmp) x.0.0 y.0.0) ((slice_cmp nat_cmp) x.0.1 y.0.1)) (nat_cmp x.1 y.1))
 
+order_total : IsTotalOrder order
+order_total = then_total (then_total (on_total (λ (p : Key). p.0.0) nat_list_cmp_total) (on_total (λ (p : Key). p.0.1) nat_list_cmp_total)) (on_total (λ (p : Key). p.1) nat_cmp_total)
+
 entry_order_is : (a : Lists) (m : ℕ) (b : Lists) (n : ℕ) → entry_order a m b n ≡ order (key a m) (key b n)
 entry_order_is a m b n =
     ap (λ t. ordering_then (ordering_then t (list_order a.right b.right)) (number_order m n)) (list_order_is a.left b.left)
@@ -34,12 +37,12 @@ entry_order_is a m b n =
 
 pub entry_flip : (a : Lists) (m : ℕ) (b : Lists) (n : ℕ) → entry_order a m b n ≡ ordering_reverse (entry_order b n a m)
 entry_flip a m b n =
-    entry_order_is a m b n ∙ (pairs (then_total (on_total (λ p. p.0) (lists_total nat_cmp_total)) (on_total (λ p. p.1) (lists_total nat_cmp_total))) nat_cmp_total).flip (key a m) (key b n) ∙ ap ordering_reverse (sym (entry_order_is b n a m))
+    entry_order_is a m b n ∙ order_total.antisymm (key a m) (key b n) ∙ ap ordering_reverse (sym (entry_order_is b n a m))
 
 pub entry_trans : (a : Lists) (m : ℕ) (b : Lists) (n : ℕ) (c : Lists) (k : ℕ) → entry_order a m b n ≡ Less → entry_order b n c k ≡ Less → entry_order a m c k ≡ Less
 entry_trans a m b n c k p q =
     entry_order_is a m c k
-    ∙ (pairs (then_total (on_total (λ p. p.0) (lists_total nat_cmp_total)) (on_total (λ p. p.1) (lists_total nat_cmp_total))) nat_cmp_total).trans (key a m) (key b n) (key c k) (sym (entry_order_is a m b n) ∙ p) (sym (entry_order_is b n c k) ∙ q)
+    ∙ order_total.trans (key a m) (key b n) (key c k) (sym (entry_order_is a m b n) ∙ p) (sym (entry_order_is b n c k) ∙ q)
 
 -- of the same row, the lower number comes first
 same_row_less : (a b : Lists) (m n : ℕ) → a ≡ b → entry_order a m b n ≡ Less → m < n

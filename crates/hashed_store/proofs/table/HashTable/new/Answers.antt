@@ -6,7 +6,7 @@ pub invariant_of-result : goal.invariant_of-result
 invariant_of-result c =
     let h = c.in_ok-list.ensures in
     let k = c.in-Ok.ensures in
-    (omega (arith, h.2, k.capacity), (k.len ∙ sym (ap length h.1), (refl, (begins_none _ _ h.1 refl, (goes_on_none _ _ h.1, tt)))))
+    record { reserved = omega (arith, h.2, k.capacity); level = k.len ∙ sym (ap length h.1); full = refl; begins = begins_none _ _ h.1 refl; goes_on = goes_on_none _ _ h.1 }
 
 pub returns-in_err-list : goal.returns-in_err-list
 returns-in_err-list c = record { made = search rules; chains = one_chain }

@@ -14,4 +14,4 @@ invariant_of-self-2 c =
     let grown : length (rows_in c.append.new.self) ≡ length (rows_in c.args.self.now.list) + 1 = ap length t.last ∙ length_push (rows_in c.args.self.now.list) (lists_of c.args.row) in
     let begun = begins_kept _ _ _ _ _ t _ c.chain_of-chain.ensures.chain c.chain_of-chain.ensures.below c.args.self.now.firsts full c.args.self.now.begins in
     let gone = goes_on_kept _ _ _ _ _ t _ c.chain_of-chain.ensures.chain c.chain_of-chain.ensures.below c.args.self.now.firsts (vec_items c.args.self.now.lowers) (vec_items c.push_reserved.new.self) (omega arith) c.args.self.now.begins c.args.self.now.goes_on (search rules) in
-    (omega (arith, h.capacity), (omega (arith, grown), (length-set c.args.self.now.firsts _ _ ∙ full, (begun, (gone, tt)))))
+    record { reserved = omega (arith, h.capacity); level = omega (arith, grown); full = length-set c.args.self.now.firsts _ _ ∙ full; begins = begun; goes_on = gone }

@@ -5,4 +5,4 @@ use Rattle.hashed_store.proofs.table.calls.HashTableStore.clear.Goals as goal
 pub invariant_of-self : goal.invariant_of-self
 invariant_of-self c =
     let h = c.clear.ensures.rows in
-    (omega arith, (c.clear-2.ensures.len ∙ sym (ap length h), (refl, (begins_none _ _ h refl, (goes_on_none _ _ h, tt)))))
+    record { reserved = omega arith; level = c.clear-2.ensures.len ∙ sym (ap length h); full = refl; begins = begins_none _ _ h refl; goes_on = goes_on_none _ _ h }

@@ -4,7 +4,7 @@ use Rattle.stores.specs.Kept.{rows_in}
 use Rattle.stores.specs.Reading.{lists_of}
 use Rattle.hashed_store.proofs.Chains.{walk_start, walk_falls, walk_then, walk_else, walk_ends}
 use Rattle.hashed_store.proofs.table.calls.HashTableStore.find.Goals as goal
-use Rattle.hashed_store.proofs.table.calls.HashTableStore.find.Goals.{then_same, else_same}
+use Rattle.hashed_store.proofs.table.calls.HashTableStore.find.Goals.{then-same, else-same}
 
 pub loop-next-init : goal.loop-next-init
 loop-next-init c =
@@ -20,8 +20,8 @@ pub loop-next-preserved : goal.loop-next-preserved
 loop-next-preserved c =
     let level : length (vec_items c.args.self.now.lowers) ≡ length (rows_in c.args.self.now.list) = omega arith in
     elim c.if-same.branch [
-      | then_same w ↦ walk_then _ _ _ level c.args.self.now.goes_on c.in-Some.node _ _ c.index-next.result.now c.loop-next.invariant c.in-Some.is c.index-next.ensures _ c.same.ensures _ w.if-same.true w.found-is
-      | else_same w ↦ walk_else _ _ _ level c.args.self.now.goes_on c.in-Some.node _ _ c.index-next.result.now c.loop-next.invariant c.in-Some.is c.index-next.ensures _ c.same.ensures _ w.if-same.false w.found-is
+      | then-same w ↦ walk_then _ _ _ level c.args.self.now.goes_on c.in-Some.node _ _ c.index-next.result.now c.loop-next.invariant c.in-Some.is c.index-next.ensures _ c.same.ensures _ w.if-same.true w.found-is
+      | else-same w ↦ walk_else _ _ _ level c.args.self.now.goes_on c.in-Some.node _ _ c.index-next.result.now c.loop-next.invariant c.in-Some.is c.index-next.ensures _ c.same.ensures _ w.if-same.false w.found-is
     ]
 
 pub returns : goal.returns

@@ -18,4 +18,4 @@ invariant_of-self-2 c =
     let have = have_kept _ _ _ _ _ t _ _ _ _ c.count.ensures c.place-place.ensures e c.args.self.now.have_rows c.args.self.now.rises in
     let all = holds_kept _ _ _ _ _ t _ _ _ _ c.count.ensures c.place-place.ensures e c.args.self.now.have_rows c.args.self.now.rises c.args.self.now.holds_all in
     let up = rises_kept _ _ _ _ _ t _ _ _ _ c.count.ensures c.place-place.ensures e c.args.self.now.have_rows c.args.self.now.rises in
-    (omega (arith, h.capacity), (omega (arith, grown, len), (have, (all, (up, tt)))))
+    record { reserved = omega (arith, h.capacity); level = omega (arith, grown, len); have_rows = have; holds_all = all; rises = up }
