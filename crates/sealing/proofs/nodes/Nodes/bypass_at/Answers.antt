@@ -42,7 +42,7 @@ module _ (c : goal.After-with) where
 
   own : (k : ℕ) → by c.with.result c.args.side k ≡ ((by c.args.moves.now c.args.side k && not (eqb k c.args.a)) || get_or (links c.args.self.now) c.in-Some.b none c.args.side k)
   own k =
-      c.with.ensures.own_val k ∙ c.union.ensures k
+      c.with.ensures.own k ∙ c.union.ensures k
       ∙ ap₂ ◌||◌ (c.remove.ensures k ∙ ap (λ v. v && not (eqb k c.args.a)) (c.of-in-Some.ensures k))
       (c.of-in-Some-2.ensures k ∙ sym (option_bit c.args.self.now c.in-Some.b b_there c.index-in-Some.result.now c.index-in-Some.ensures c.args.side k))
 

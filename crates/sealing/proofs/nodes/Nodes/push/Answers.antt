@@ -41,9 +41,9 @@ module _ (c : goal.After-push_reserved) where
       ∙ ap (λ (b : Bool). (b && by c.args.worse.now (other s) i) || get_or (ranks c.args.self.now) i none s k) (small_same k (length (links c.args.self.now)) small)
 
   own : (s : Side) (k : ℕ) → by c.insert-2.new.self s k ≡ (eqb k (length (links c.args.self.now)) || by c.args.worse.now s k)
-  own Left k = c.insert-2.ensures.theirs k ∙ c.insert.ensures.own_val k ∙ ap (λ (n : ℕ). (eqb k n && ltb k 384) || by c.args.worse.now Left k) number_is ∙ ap (λ (b : Bool). b || by c.args.worse.now Left k) (small_same k (length (links c.args.self.now)) small)
+  own Left k = c.insert-2.ensures.theirs k ∙ c.insert.ensures.own k ∙ ap (λ (n : ℕ). (eqb k n && ltb k 384) || by c.args.worse.now Left k) number_is ∙ ap (λ (b : Bool). b || by c.args.worse.now Left k) (small_same k (length (links c.args.self.now)) small)
   own Right k =
-      c.insert-2.ensures.own_val k ∙ ap₂ (λ (n : ℕ) (b : Bool). (eqb k n && ltb k 384) || b) number_is (c.insert.ensures.theirs k)
+      c.insert-2.ensures.own k ∙ ap₂ (λ (n : ℕ) (b : Bool). (eqb k n && ltb k 384) || b) number_is (c.insert.ensures.theirs k)
       ∙ ap (λ (b : Bool). b || by c.args.worse.now Right k) (small_same k (length (links c.args.self.now)) small)
 
 pub invariant_of-self : goal.invariant_of-self
@@ -52,25 +52,15 @@ invariant_of-self c =
     let o = by c.args.form.now in
     let w = by c.args.worse.now in
     let ranked = ranked_more (links t) (ranks t) (worse_of (vec_items c.rank_under.new.rows)) o w (by c.insert-2.new.self) (same c) t.ranked (compared_links t o w c.requires.known) (old c) (own c) in
-    let kept : vec_len c.rank_under.new.rows ≡ vec_len t.rows = (let e = c.rank_under.ensures.ranks.len in search rules) in (
-      (let a = c.push_reserved.ensures.len in let h = c.requires.room in omega arith),
-      (
-        (let a = c.push_reserved.ensures.capacity in let b = c.rank_under.ensures.capacity in let r = t.reserved in omega arith),
-        (
-          subst (λ os. Lower os) (sym (options_are c)) (lower_more (links t) o t.lower (within_links t o c.requires.within)),
-          (
-            subst (λ os. Ranked os (worse_of (vec_items c.push_reserved.new.self))) (sym (options_are c)) (subst (λ ws. Ranked (links t ++ (o ∷ [])) ws) (sym (worse_are c)) ranked),
-            (
-              subst (λ os. AllCanonical os) (sym (options_are c)) (canonical_more (links t) o t.canonical c.requires.canonical),
-              (
-                subst (λ os. Apart os) (sym (options_are c)) (apart_more (links t) o t.apart (λ k h. c.requires.fresh k (subst (λ n. k < n) (sym (count_rows t)) h))),
-                tt,
-              ),
-            ),
-          ),
-        ),
-      ),
-    )
+    let kept : vec_len c.rank_under.new.rows ≡ vec_len t.rows = (let e = c.rank_under.ensures.ranks.len in search rules) in
+    record {
+      few = (let a = c.push_reserved.ensures.len in let h = c.requires.room in omega arith);
+      reserved = (let a = c.push_reserved.ensures.capacity in let b = c.rank_under.ensures.capacity in let r = t.reserved in omega arith);
+      lower = subst (λ os. Lower os) (sym (options_are c)) (lower_more (links t) o t.lower (within_links t o c.requires.within));
+      ranked = subst (λ os. Ranked os (worse_of (vec_items c.push_reserved.new.self))) (sym (options_are c)) (subst (λ ws. Ranked (links t ++ (o ∷ [])) ws) (sym (worse_are c)) ranked);
+      canonical = subst (λ os. AllCanonical os) (sym (options_are c)) (canonical_more (links t) o t.canonical c.requires.canonical);
+      apart = subst (λ os. Apart os) (sym (options_are c)) (apart_more (links t) o t.apart (λ k h. c.requires.fresh k (subst (λ n. k < n) (sym (count_rows t)) h)));
+    }
 
 pub returns : goal.returns
 returns c =

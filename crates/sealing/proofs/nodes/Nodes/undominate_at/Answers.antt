@@ -18,5 +18,5 @@ returns c =
     let small : c.args.a < 384 = let f = t.few in let h = c.requires.there in omega arith in
     cleared_prune (links t) (ranks t) t.lower t.ranked (same_length (vec_items t.rows)) c.args.side c.args.a (there_links t c.args.a c.requires.there) small (by c.args.moves.now) (by c.with.result)
     (within_links t (by c.args.moves.now) c.requires.within) (sym (c.of.ensures c.args.a) ∙ sym c.contains.ensures ∙ c.if-not-contains.false) c.with.ensures.theirs
-    (λ k. c.with.ensures.own_val k ∙ c.insert.ensures k ∙ ap (λ v. (eqb k c.args.a && ltb k 384) || v) (c.minus.ensures k
+    (λ k. c.with.ensures.own k ∙ c.insert.ensures k ∙ ap (λ v. (eqb k c.args.a && ltb k 384) || v) (c.minus.ensures k
     ∙ ap₂ (λ u v. u && not v) (c.of.ensures k) (c.of-2.ensures k ∙ sym (worse_bit t c.args.a c.requires.there c.index.result.now c.index.ensures c.args.side k))))

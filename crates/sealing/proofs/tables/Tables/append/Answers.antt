@@ -45,10 +45,14 @@ invariant_of-self c =
     let o = by c.args.form.now in
     let ok : is_ok c.insert.result ≡ true = c.insert.ensures.succeeds (room t c.push.new.self o c.push.ensures) in
     let l = listing_after t c.push.new.self o c.push.ensures (vec_items c.insert.new.self) (is_ok c.insert.result) c.place-place.result c.count-number.result c.count-number.ensures ok c.insert.ensures.items
-    (subst (λ ks. Placed (links c.push.new.self) ks c.count-number.result c.place-place.result) c.deref.ensures.value c.place-place.ensures) in (
-      (let a = c.insert.ensures.capacity in let b = t.reserved in omega arith),
-      (c.insert.ensures.len ∙ cond-true (is_ok c.insert.result) _ _ ok ∙ sym (one_more t c.push.new.self o c.push.ensures), (l.below, (l.complete, (l.rises, tt)))),
-    )
+    (subst (λ ks. Placed (links c.push.new.self) ks c.count-number.result c.place-place.result) c.deref.ensures.value c.place-place.ensures) in
+    record {
+      reserved = (let a = c.insert.ensures.capacity in let b = t.reserved in omega arith);
+      whole = c.insert.ensures.len ∙ cond-true (is_ok c.insert.result) _ _ ok ∙ sym (one_more t c.push.new.self o c.push.ensures);
+      below = l.below;
+      complete = l.complete;
+      rises = l.rises;
+    }
 
 pub returns : goal.returns
 returns c =

@@ -11,7 +11,7 @@ invariant_of-result c =
     let e : links c.in_ok-nodes.nodes ≡ _ = c.in_ok-nodes.ensures in
     let n = count_rows c.in_ok-nodes.nodes ∙ ap length e in
     let l = listing_none (links c.in_ok-nodes.nodes) (vec_items c.in_ok-listing.listing) e (search rules) in
-    (search rules, ((let m : vec_len c.in_ok-listing.listing ≡ 0 = search rules in m ∙ sym n), (l.below, (l.complete, (l.rises, tt)))))
+    record { reserved = search rules; whole = (let m : vec_len c.in_ok-listing.listing ≡ 0 = search rules in m ∙ sym n); below = l.below; complete = l.complete; rises = l.rises }
 
 pub returns : goal.returns
 returns c = ap (map (in_order (vec_items c.in_ok-listing.listing))) c.in_ok-nodes.ensures
