@@ -16,7 +16,7 @@ use stores::store::Store;
 const LONGEST: usize = 65_535;
 
 // What is left of a budget of bytes behind the text of a node, if it goes so far.
-#[cycle(spend_spend_options)]
+#[cycle(spending)]
 fn spend<S: Store>(store: &S, node: u16, budget: usize) -> Option<usize>
     ensures { SomeIff result (text_length (S.Store.rows store.now) node ≤ budget) (budget - text_length (S.Store.rows store.now) node) }
 {
@@ -26,7 +26,7 @@ fn spend<S: Store>(store: &S, node: u16, budget: usize) -> Option<usize>
 }
 
 // The same behind the options of a side, which commas part.
-#[cycle(spend_spend_options)]
+#[cycle(spending)]
 fn spend_options<S: Store>(store: &S, side: Side, node: u16, budget: usize) -> Option<usize>
     ensures { SomeIff result (length (options_text (S.Store.rows store.now) side node) ≤ budget) (budget - length (options_text (S.Store.rows store.now) side node)) }
 {
@@ -42,7 +42,7 @@ fn spend_options<S: Store>(store: &S, side: Side, node: u16, budget: usize) -> O
 }
 
 // Writes the text of a node from a place on, and answers the place behind it.
-#[cycle(write_write_options)]
+#[cycle(writing)]
 fn write<S: Store>(store: &S, node: u16, out: &mut [u8], place: usize) -> usize
     requires { place + text_length (S.Store.rows store.now) node ≤ length out.old }
     ensures behind { result ≡ place + text_length (S.Store.rows store.now) node }
@@ -57,7 +57,7 @@ fn write<S: Store>(store: &S, node: u16, out: &mut [u8], place: usize) -> usize
 }
 
 // The same for the options of a side, which commas part.
-#[cycle(write_write_options)]
+#[cycle(writing)]
 fn write_options<S: Store>(store: &S, side: Side, node: u16, out: &mut [u8], place: usize) -> usize
     requires { place + length (options_text (S.Store.rows store.now) side node) ≤ length out.old }
     ensures behind { result ≡ place + length (options_text (S.Store.rows store.now) side node) }

@@ -67,8 +67,8 @@ impl Nest {
 
     // A bracket opens where a form is to come.
     fn open(self) -> NestStep
-        requires sound { Sound self }
-        requires spot_value { self.spot ≡ Form }
+        requires fits { Sound self }
+        requires at_form { self.spot ≡ Form }
         ensures { Leads (stack self) 123 result }
     {
         if self.waiting >= 96 {
@@ -82,8 +82,8 @@ impl Nest {
 
     // The bracket that is open waits for an option on this side.
     fn wait(self, side: Side) -> Nest
-        requires sound_2 { Sound self }
-        requires spot_value { weight_of self.spot ≡ 1 }
+        requires fits { Sound self }
+        requires inside { weight_of self.spot ≡ 1 }
         ensures stack { stack result ≡ text ∷ after side ∷ outers self.waiting self.rights }
         ensures form { result.spot ≡ Form }
         ensures sound { Sound result }
@@ -101,8 +101,8 @@ impl Nest {
 
     // The innermost bracket closes: its form is an option of the next one, or the whole.
     fn close(self) -> NestStep
-        requires sound { Sound self }
-        requires spot_value { weight_of self.spot ≡ 1 }
+        requires fits { Sound self }
+        requires inside { weight_of self.spot ≡ 1 }
         ensures { Closed (outers self.waiting self.rights) result }
     {
         if self.waiting == 0 {

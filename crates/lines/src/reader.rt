@@ -62,8 +62,8 @@ impl<'a> Reader<'a> {
 
     // Takes a word, of which the first letter has been seen.
     fn word(&mut self, word: &[u8]) -> Result<(), LineFault>
-        requires at_in_bounds { self.old.at < length self.old.line.now }
-        requires in_bounds { 1 ≤ length word.now }
+        requires seen { self.old.at < length self.old.line.now }
+        requires some { 1 ≤ length word.now }
         ensures same { SameLine self.old self.new }
         ensures read { MatchResult result (λ _. Goes self.old.line.now (self.old.at + 1) self.new.at (letters (drop 1 word.now)) [] (drop 1 word.now)) (Fails self.old.line.now (self.old.at + 1) (letters (drop 1 word.now))) }
     {

@@ -20,8 +20,8 @@ overflow_cast-result g c = let h = c.in-Node.ensures.seals.1 in let k = few c.ar
 pub returns-in_default : goal.returns-in_default
 returns-in_default g c = absurd (row_there c.args.self.now.tables (by c.in-New.form) c.row.result c.row.ensures c.in_default.is c.in-New.ensures.seals.1.narrow)
 
-pub returns-in_err-node : goal.returns-in_err-node
-returns-in_err-node g c =
+pub returns-in_err-node-in-New : goal.returns-in_err-node-in-New
+returns-in_err-node-in-New g c =
     let t = c.args.self.now.tables in
     let rows = g.S.Store.rows c.args.self.now.store in
     let room = g.S.Store.room c.args.self.now.store in
@@ -29,13 +29,13 @@ returns-in_err-node g c =
     let new = c.in-New.ensures.seals.1 in
     let is : lists_of c.in-Some.row ≡ r = row_is t (by c.in-New.form) (Some c.in-Some.row) c.in-Some.row c.in-Some.ensures refl in
     let went : g.S.Store.rows c.append.new.self ≡ append_rows rows room r = c.append.ensures.rows ∙ ap (append_rows rows room) is in
-    let e : Err c.in_err-node.field-0.0 ≡ append_answer rows room r = c.in_err-node.ensures.answer ∙ ap (append_answer rows room) is in
+    let e : Err c.in_err-node-in-New.field-0.0 ≡ append_answer rows room r = c.in_err-node-in-New.ensures.answer ∙ ap (append_answer rows room) is in
     let p = err_from_is_err_and c.from_residual.result c.from_residual.ensures.1 in
     record {
       seals = λ kept l lists.
           subst (λ a. SealsNumbers room rows l (answer_of a) (g.S.Store.rows c.append.new.self)) (sym (p.1 ∙ ap Err p.2))
-          (full_seals rows t kept room (by c.args.moves.now) r new (g.S.Store.rows c.append.new.self) went c.in_err-node.field-0.0 e l lists);
-      kept = λ kept. full_kept rows t kept room (by c.args.moves.now) r new (g.S.Store.rows c.append.new.self) went c.in_err-node.field-0.0 e;
+          (full_seals rows t kept room (by c.args.moves.now) r new (g.S.Store.rows c.append.new.self) went c.in_err-node-in-New.field-0.0 e l lists);
+      kept = λ kept. full_kept rows t kept room (by c.args.moves.now) r new (g.S.Store.rows c.append.new.self) went c.in_err-node-in-New.field-0.0 e;
       room = c.append.ensures.room;
     }
 
@@ -60,8 +60,8 @@ returns-in-Node g c = record {
   room = refl;
 }
 
-pub returns-in_ok-node : goal.returns-in_ok-node
-returns-in_ok-node g c =
+pub returns-in_ok-node-in-New : goal.returns-in_ok-node-in-New
+returns-in_ok-node-in-New g c =
     let t = c.args.self.now.tables in
     let rows = g.S.Store.rows c.args.self.now.store in
     let room = g.S.Store.room c.args.self.now.store in
@@ -69,11 +69,11 @@ returns-in_ok-node g c =
     let new = c.in-New.ensures.seals.1 in
     let is : lists_of c.in-Some.row ≡ r = row_is t (by c.in-New.form) (Some c.in-Some.row) c.in-Some.row c.in-Some.ensures refl in
     let went : g.S.Store.rows c.append.new.self ≡ append_rows rows room r = c.append.ensures.rows ∙ ap (append_rows rows room) is in
-    let e : Ok c.in_ok-node.node ≡ append_answer rows room r = c.in_ok-node.ensures.answer ∙ ap (append_answer rows room) is in
+    let e : Ok c.in_ok-node-in-New.node ≡ append_answer rows room r = c.in_ok-node-in-New.ensures.answer ∙ ap (append_answer rows room) is in
     record {
-      seals = λ kept l lists. new_seals rows t kept room (by c.args.moves.now) r new (g.S.Store.rows c.append.new.self) went c.in_ok-node.node e l lists;
+      seals = λ kept l lists. new_seals rows t kept room (by c.args.moves.now) r new (g.S.Store.rows c.append.new.self) went c.in_ok-node-in-New.node e l lists;
       kept = λ kept.
-          new_kept rows t kept room (by c.args.moves.now) r new (g.S.Store.rows c.append.new.self) went c.in_ok-node.node e (g.met.S.Store.lawful c.args.self.now.store).most_room
+          new_kept rows t kept room (by c.args.moves.now) r new (g.S.Store.rows c.append.new.self) went c.in_ok-node-in-New.node e (g.met.S.Store.lawful c.args.self.now.store).most_room
           c.extend.result c.extend.new.self c.extend.ensures;
       room = c.append.ensures.room;
     }

@@ -8,6 +8,6 @@ pub returns-then-self-ge96 : goal.returns-then-self-ge96
 returns-then-self-ge96 c =
     let k = outers c.args.self.waiting c.args.self.rights in
     let e = depth_outers c.args.self.waiting c.args.self.rights in
-    let f = c.requires.0.few in
+    let f = c.requires.fits.few in
     let l = c.if-self-ge96.true in
-    (in_left ∷ k, ap (λ z. next (symbol z ∷ k) 123) c.requires.1, omega arith)
+    (in_left ∷ k, ap (λ z. next (symbol z ∷ k) 123) c.requires.at_form, omega arith)

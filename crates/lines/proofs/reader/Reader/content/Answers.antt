@@ -11,7 +11,7 @@ returns-in-Sum c = record { same = c.sum.ensures.same; read = content_as _ _ _ c
 pub returns-in-Form : goal.returns-in-Form
 returns-in-Form c = record { same = c.form.ensures.same; read = content_as _ _ _ c.args.heading Form c.args.place c.form.result c.in-Form.is c.form.ensures.read }
 
-pub returns-in_ok-board : goal.returns-in_ok-board
-returns-in_ok-board c =
-    let h = c.in_ok-board.ensures in
-    record { same = h.same; read = plain_as c.args.heading c.in-Board.kind c.args.place c.in_ok-board.board c.in-Board.is h.read }
+pub returns-in_ok-board-in-Board : goal.returns-in_ok-board-in-Board
+returns-in_ok-board-in-Board c =
+    let h = c.in_ok-board-in-Board.ensures in
+    record { same = h.same; read = plain_as c.args.heading c.in-Board.kind c.args.place c.in_ok-board-in-Board.board c.in-Board.is h.read }

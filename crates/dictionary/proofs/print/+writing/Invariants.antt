@@ -2,7 +2,7 @@
 use Rattle.std.proofs.Common.{◌≡◌, ◌+◌, ◌*◌, length}
 use Rattle.dictionary.specs.Printing.{over}
 use Rattle.dictionary.proofs.Texts.{before}
-use Rattle.dictionary.proofs.print.+write_write_options.Given as goal
+use Rattle.dictionary.proofs.print.+writing.Given as goal
 
 abbrev pub decreases-write : goal.decreases-write
 decreases-write g l = 2 * l.node + 1

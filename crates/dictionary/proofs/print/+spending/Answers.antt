@@ -2,7 +2,7 @@
 use Rattle.std.proofs.Common.{◌≡◌, ◌+◌, ◌-◌, ◌<◌, ◌≤◌, length, subst, arith, rules}
 use Rattle.rulesets.proofs.Positions.{nth_none}
 use Rattle.dictionary.proofs.Texts.{node_length, option_falls, before_longer, before_short, before_all, checked_as}
-use Rattle.dictionary.proofs.print.+spend_spend_options.Goals as goal
+use Rattle.dictionary.proofs.print.+spending.Goals as goal
 
 pub spend-returns-in_err-marks : goal.spend-returns-in_err-marks
 spend-returns-in_err-marks g t c =

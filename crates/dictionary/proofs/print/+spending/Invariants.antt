@@ -4,7 +4,7 @@ use Rattle.games.specs.Numbered.{list_of}
 use Rattle.stores.specs.Rows.{row_at}
 use Rattle.calls.specs.Rows.{node}
 use Rattle.dictionary.proofs.Texts.{written}
-use Rattle.dictionary.proofs.print.+spend_spend_options.Given as goal
+use Rattle.dictionary.proofs.print.+spending.Given as goal
 
 abbrev pub decreases-spend : goal.decreases-spend
 decreases-spend g l = 2 * l.node + 1

@@ -8,7 +8,7 @@ use Rattle.calls.specs.Rows.{node}
 use Rattle.dictionary.specs.Printing.{options_text, over}
 use Rattle.dictionary.proofs.Overwrites.{comma_left_out, comma_written, over_none, then_part, whole}
 use Rattle.dictionary.proofs.Texts.{gap, before, node_length, node_text, option_falls, before_longer, before_more, before_short, before_all}
-use Rattle.dictionary.proofs.print.+write_write_options.Goals as goal
+use Rattle.dictionary.proofs.print.+writing.Goals as goal
 
 pub write-bounds-out-place : goal.write-bounds-out-place
 write-bounds-out-place g t c =
@@ -16,8 +16,8 @@ write-bounds-out-place g t c =
     let p = c.requires in
     omega arith
 
-pub write_write_options-bar-requires : goal.write_write_options-bar-requires
-write_write_options-bar-requires g t c κs within =
+pub write-write_options-bar-requires : goal.write-write_options-bar-requires
+write-write_options-bar-requires g t c κs within =
     let l = node_length (g.S.Store.rows c.args.store.now) (g.S.Store.room c.args.store.now) (g.met.S.Store.lawful c.args.store.now) c.args.node in
     let p = c.requires in
     let z = length-set c.args.out.now c.args.place 123 in
@@ -41,8 +41,8 @@ write-overflow_add-bar g t c =
     let k = c.write_options-bar.auto.out in
     search rules
 
-pub write_write_options-close-requires : goal.write_write_options-close-requires
-write_write_options-close-requires g t c κs within =
+pub write-write_options-close-requires : goal.write-write_options-close-requires
+write-write_options-close-requires g t c κs within =
     let l = node_length (g.S.Store.rows c.args.store.now) (g.S.Store.room c.args.store.now) (g.met.S.Store.lawful c.args.store.now) c.args.node in
     let p = c.requires in
     let z = length-set c.args.out.now c.args.place 123 in
