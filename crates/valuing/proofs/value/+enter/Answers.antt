@@ -60,7 +60,7 @@ loop-i-preserved g t c =
             (again R l ms c.loop-i.i w.in-Some-successor.next w.in_ok-node.node (by c.loop-i.moves Left) (by c.match-successor.moves Left) (g.S.Store.room d₀.store) (g.S.Store.room d.store) (g.S.Store.room w.enter.new.dictionary.store) (g.S.Store.rows d₀.store) (g.S.Store.rows d.store) (g.S.Store.rows w.enter.new.dictionary.store)
             (Ready R (g.S.Store.rows d₀.store) d₀.tables c.args.memory.now) (Ready R (g.S.Store.rows d.store) d.tables c.loop-i.memory) (Ready R (g.S.Store.rows w.enter.new.dictionary.store) w.enter.new.dictionary.tables w.enter.new.memory) c.loop-i.invariant.0 w.in-Some-successor.ensures w.in_ok-node.ensures.room w.in_ok-node.ensures.kept w.in_ok-node.ensures.entered
             (let law = g.met.S.Store.lawful w.enter.new.dictionary.store in let f = law.fits in let m = law.most_room in omega arith)
-            (λ k. ap (λ z. by z Left k) w.moves-is ∙ w.insert.ensures.own_val k)),
+            (λ k. ap (λ z. by z Left k) w.moves-is ∙ w.insert.ensures.own k)),
         λ k. ap (λ z. by z Right k) w.moves-is ∙ w.insert.ensures.theirs k ∙ c.loop-i.invariant.1 k,
       )
       | goal.in_default-successor w ↦ absurd (nth_none ms c.loop-i.i (omega arith) w.in_default-successor.ensures)
@@ -110,7 +110,7 @@ loop-j-preserved g t c =
             (again R l ms c.loop-j.j w.in-Some-successor-2.next w.in_ok-node-2.node (by c.loop-j.moves Right) (by c.match-successor-2.moves Right) (g.S.Store.room d₀.store) (g.S.Store.room d.store) (g.S.Store.room w.enter-in-Some-successor-2.new.dictionary.store) (g.S.Store.rows d₀.store) (g.S.Store.rows d.store) (g.S.Store.rows w.enter-in-Some-successor-2.new.dictionary.store)
             (Ready R (g.S.Store.rows d₀.store) d₀.tables c.loop-i.memory) (Ready R (g.S.Store.rows d.store) d.tables c.loop-j.memory) (Ready R (g.S.Store.rows w.enter-in-Some-successor-2.new.dictionary.store) w.enter-in-Some-successor-2.new.dictionary.tables w.enter-in-Some-successor-2.new.memory) c.loop-j.invariant.0 w.in-Some-successor-2.ensures w.in_ok-node-2.ensures.room w.in_ok-node-2.ensures.kept w.in_ok-node-2.ensures.entered
             (let law = g.met.S.Store.lawful w.enter-in-Some-successor-2.new.dictionary.store in let f = law.fits in let m = law.most_room in omega arith)
-            (λ k. ap (λ z. by z Right k) w.moves-is ∙ w.insert-in-Some-successor-2.ensures.own_val k)),
+            (λ k. ap (λ z. by z Right k) w.moves-is ∙ w.insert-in-Some-successor-2.ensures.own k)),
         λ k. ap (λ z. by z Left k) w.moves-is ∙ w.insert-in-Some-successor-2.ensures.theirs k ∙ c.loop-j.invariant.1 k,
       )
       | goal.in_default-successor-2 w ↦ absurd (nth_none ms c.loop-j.j (omega arith) w.in_default-successor-2.ensures)

@@ -12,7 +12,7 @@ pub returns : goal.returns
 returns c =
     let few = c.if-number-gt-LARGEST.false in
     let puts : PutsInto c.args.self.now c.args.side c.args.number (told tt) (record { numbers = c.insert.new.self }) =
-    λ l held. (put c.args.side c.args.number l, taken (omega arith), lists_put c.args.side c.args.number (omega arith) (by c.args.self.now.numbers) (by c.insert.new.self) c.insert.ensures.own_val c.insert.ensures.theirs l held) in
+    λ l held. (put c.args.side c.args.number l, taken (omega arith), lists_put c.args.side c.args.number (omega arith) (by c.args.self.now.numbers) (by c.insert.new.self) c.insert.ensures.own c.insert.ensures.theirs l held) in
     record { puts = puts; step = put_steps c.args.self.now (record { numbers = c.insert.new.self }) c.args.side c.args.number (told tt) puts }
 
 pub returns-then-number-gt-LARGEST : goal.returns-then-number-gt-LARGEST
