@@ -1,4 +1,6 @@
 // The bits of a 64-bit word: how many there are, where they stand, and whether one is set.
+#![tactic(auto)]
+
 ghost use Rattle.std.specs.Prelude.{◌≡◌, length};
 ghost use Rattle.std.specs.List.{slice_get};
 ghost use Rattle.bits.specs.Bits.{bit, places};

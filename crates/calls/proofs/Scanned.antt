@@ -1,8 +1,8 @@
 -- What the check of a text needs: so many of its bytes are in order, and the reader has taken their marks.
 -- Assumes nothing.
-use Rattle.std.proofs.Common.{◌≡◌, ℕ, zero, suc, ◌+◌, ◌<◌, ◌≤◌, ◌⊎◌, List, [], ◌∷◌, ◌++◌, map, length, get_or, take, drop, sym, refl, ap, ◌∙◌, subst, ap₂, inl, inr, append_assoc, arith}
+use Rattle.std.proofs.Common.{◌≡◌, ℕ, zero, suc, ◌+◌, ◌<◌, ◌≤◌, List, [], ◌∷◌, ◌++◌, map, length, get_or, take, drop, sym, refl, ap, ◌∙◌, subst, ap₂, arith}
 use mathlib.Core.Option.{none}
-use Rattle.std.proofs.lemmas.List.{take-append-drop, take_all, take_more, drop_more, length-take, length-append, length-map, map-append}
+use Rattle.std.proofs.lemmas.List.{take-append-drop, take_all, take_more, drop_more, length-take}
 use Rattle.games.specs.Form.{Form}
 use Rattle.games.specs.Text.{Mark, open-mark, bar, close-mark, comma, byte}
 use Rattle.games.proofs.Reader.{Bracket, in_left, in_right, State, wants, fresh, after, done, wrong, finish, next, run, result}

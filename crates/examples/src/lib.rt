@@ -1,4 +1,6 @@
 // Eight worked positions, shown together from the definitions.
+#![tactic(auto)]
+
 ghost use Rattle.examples.specs.Worked.{WorkedPositions};
 
 pub fn worked_positions_stand()

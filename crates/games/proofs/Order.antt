@@ -2,7 +2,7 @@
 -- Assumes nothing.
 use Rattle.std.proofs.Common.{◌≡◌, ℕ, zero, suc, ◌+◌, ◌≤◌, not, ◌&&◌, T, ◌⊎◌, sym, ◌∙◌, ap₂, inl, inr, arith, T_not}
 use lib.Dec.{not_T}
-use Rattle.games.specs.Form.{Form, ◌&◌, lefts, rights, ◌∈◌, any, size}
+use Rattle.games.specs.Form.{Form, lefts, rights, ◌∈◌, any, size}
 use Rattle.games.specs.Order.{ge_in, ge, ◌≥◌, ◌≈◌}
 use Rattle.games.proofs.Bools.{T_dec, T_same, and_make, and_left, and_right}
 use Rattle.games.proofs.Form.{size_pos, size_left, size_right, any_cong, any_at, any_some, find}

@@ -1,4 +1,6 @@
 // Short partizan games under normal play: the definitions that every other crate speaks of (specs/), and their theorems.
+#![tactic(auto)]
+
 pub mod laws;
 pub mod outcome;
 pub mod side;

@@ -1,2 +1,4 @@
 // A store that finds its rows by hash chains.
+#![tactic(auto)]
+
 pub mod table;

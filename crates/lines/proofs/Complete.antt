@@ -1,9 +1,9 @@
 -- The machine takes each spelling to its end.
 -- Assumes nothing.
-use Rattle.std.proofs.Common.{◌≡◌, ℕ, zero, suc, ◌+◌, ◌<◌, List, [], ◌∷◌, ◌++◌, map, codes, sym, refl, ap, ◌∙◌, subst, append_assoc, arith}
-use mathlib.Core.Option.{Option, none, some}
+use Rattle.std.proofs.Common.{◌≡◌, ℕ, zero, suc, ◌<◌, List, [], ◌∷◌, ◌++◌, map, codes, refl, ap, ◌∙◌, append_assoc, arith}
+use mathlib.Core.Option.{some}
 use Rattle.games.specs.Form.{Form, Forms, form, ∅, ◌&◌}
-use Rattle.games.specs.Text.{Mark, open-mark, bar, close-mark, comma, byte, texts, more, bytes}
+use Rattle.games.specs.Text.{bar, close-mark, byte, texts, more, bytes}
 use Rattle.games.specs.Text.{text as marks}
 use Rattle.games.specs.declared.side.Side.{Side}
 use Rattle.games.specs.declared.side.Side.TheVariants.{Left, Right}
@@ -11,10 +11,10 @@ use Rattle.std.specs.Int.Digits.{AllBelowBase}
 use Rattle.std.proofs.lemmas.List.{map-append}
 use Rattle.lines.specs.Syntax.{Items, Square, vacant, filled, Cell, toad, frog, blank, Colour, for_left, for_right, for-both, Edge, Board, domineering, toads, hackenbush, Subject, plain, minus, sum, written, Line, value, comparison, first_move}
 use Rattle.lines.specs.Syntax.{spell_more, spell_items, numeral, spell_square, spell_row, spell_cell, spell_colour, spell_edge, items_of, spell_board, spell_subject, spell_side, spell}
-use Rattle.lines.specs.Machine.{Symbol, just, line, line_word, subject, subject-word, board, board-word, side, squares, more-squares, cells, more-cells, from, from-digits, to, to-digits, colour, more_edges, text, in_left, after-left, in_right, after-right, letters, rules, pick, onto, next, step, run}
-use Rattle.lines.proofs.Machine.{run_++, run_through, run_word}
-use Rattle.lines.proofs.Numerals.{ascii, numeral_zero, Figures, figures, digit_cases}
-use Rattle.lines.proofs.Sound.{rows_text, squares_text, cells_text, edges_text, colour_text}
+use Rattle.lines.specs.Machine.{Symbol, just, line, subject, board, side, squares, more-squares, cells, more-cells, from, from-digits, to, to-digits, colour, more_edges, text, in_left, after-left, in_right, after-right, next, run}
+use Rattle.lines.proofs.Machine.{run_through, run_word}
+use Rattle.lines.proofs.Numerals.{ascii, numeral_zero, figures, digit_cases}
+use Rattle.lines.proofs.Sound.{rows_text, cells_text, edges_text}
 
 abbrev pub Emptied : List Symbol → List ℕ → Type 0
 Emptied s t = run (some s) t ≡ some []

@@ -1,9 +1,9 @@
 -- How many brackets of a text are open: as many as the symbols of texts that are still to come.
 -- Assumes nothing.
-use Rattle.std.proofs.Common.{◌≡◌, ℕ, suc, ◌+◌, ◌-◌, ◌≤◌, Bool, true, false, cond, not, ◌&&◌, eqb, List, [], ◌∷◌, ◌++◌, sym, refl, ap, ◌∙◌, subst, ap₂, arith}
+use Rattle.std.proofs.Common.{◌≡◌, ℕ, suc, ◌+◌, ◌≤◌, Bool, true, false, cond, not, ◌&&◌, eqb, List, [], ◌∷◌, ◌++◌, refl, ap, subst, ap₂, arith}
 use mathlib.Core.Option.{Option, none, some}
 use Rattle.calls.specs.Texts.{times, nesting}
-use Rattle.lines.specs.Machine.{Symbol, just, line, line_word, subject, subject-word, board, board-word, side, squares, more-squares, cells, more-cells, from, from-digits, to, to-digits, colour, more_edges, text, in_left, after-left, in_right, after-right, rules, pick, onto, next, step, run}
+use Rattle.lines.specs.Machine.{Symbol, just, line, line_word, subject, subject-word, board, board-word, side, squares, more-squares, cells, more-cells, from, from-digits, to, to-digits, colour, more_edges, text, in_left, after-left, in_right, after-right, rules, pick, onto, next, run}
 use Rattle.lines.specs.Machine.{weight, depth}
 use Rattle.lines.proofs.Machine.{never_some, Each, picked}
 

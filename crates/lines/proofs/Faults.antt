@@ -1,15 +1,15 @@
 -- Any bytes are a right line or have a fault, one only, and not both.
 -- Assumes nothing.
-use Rattle.std.proofs.Common.{◌≡◌, ℕ, zero, suc, ◌+◌, ◌-◌, ◌<◌, ◌≤◌, ◌⊎◌, List, [], ◌∷◌, ◌++◌, length, get_or, take, drop, sym, refl, ap, ◌∙◌, subst, inl, inr, append_assoc, append-nil, arith}
+use Rattle.std.proofs.Common.{◌≡◌, ℕ, zero, suc, ◌+◌, ◌<◌, ◌≤◌, ◌⊎◌, List, [], ◌∷◌, ◌++◌, length, get_or, take, drop, sym, refl, ap, ◌∙◌, subst, inl, inr, append_assoc, append-nil, arith}
 use mathlib.Core.Option.{Option, none, some}
 use native.Mathlib.Decide.{dec_lt, dec_le}
-use Rattle.std.proofs.lemmas.List.{take_more, take_all, take-take, take-append-drop, length-append}
-use Rattle.calls.specs.Texts.{times, nesting, Shallow}
-use Rattle.lines.specs.Syntax.{Line, spell}
+use Rattle.std.proofs.lemmas.List.{take-take, take-append-drop}
+use Rattle.calls.specs.Texts.{nesting, Shallow}
+use Rattle.lines.specs.Syntax.{Line}
 use Rattle.lines.specs.Faults.{RightLine, GoesOn, Fault, wrong_byte, early_end, too_deep, BytesHaveAVerdict, TheVerdictIsOne}
 use Rattle.lines.specs.Machine.{Symbol, line, next, depth, Stands}
 use Rattle.lines.proofs.Depth.{one_deeper}
-use Rattle.lines.proofs.Standing.{at, stands_start, stands_more, stands_wrong, stands_deep, stands_early, stands_end}
+use Rattle.lines.proofs.Standing.{stands_start, stands_more, stands_wrong, stands_deep, stands_early, stands_end}
 
 -- a prefix goes on too, and nests no deeper
 goes_front : (t : List ℕ) (i : ℕ) → GoesOn t → GoesOn (take i t)

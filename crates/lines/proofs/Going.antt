@@ -5,7 +5,6 @@ use mathlib.Core.Option.{Option, none, some}
 use Rattle.std.proofs.lemmas.Bool.{eq-eqb, ne_eqb}
 use Rattle.std.proofs.lemmas.List.{drop_more, drop_all, take_more, take_all, length-append}
 use Rattle.lines.specs.Machine.{Symbol, just, letters, rules, pick, onto, next, depth, Stands}
-use Rattle.lines.specs.Questions.{Faulty}
 use Rattle.lines.specs.Reading.{Spans, Goes, Fails}
 use Rattle.lines.specs.declared.fault.LineFault.{LineFault}
 use Rattle.lines.specs.declared.fault.LineFault.TheVariants.{WrongByte, EarlyEnd, TooDeep}

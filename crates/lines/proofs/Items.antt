@@ -1,9 +1,8 @@
 -- The items of a board, byte by byte.
 -- Assumes nothing.
-use Rattle.std.proofs.Common.{◌≡◌, ℕ, ◌+◌, ◌-◌, ◌<◌, ◌≤◌, List, [], ◌∷◌, ◌++◌, length, get_or, take, drop, codes, sym, refl, ap, ◌∙◌, subst, arith}
+use Rattle.std.proofs.Common.{◌≡◌, ℕ, ◌+◌, ◌-◌, ◌<◌, ◌≤◌, List, [], ◌∷◌, ◌++◌, length, get_or, take, drop, sym, refl, ap, ◌∙◌, subst, arith}
 use mathlib.Core.Option.{none, some}
-use Rattle.lines.specs.Machine.{Symbol, next, run, step, depth}
-use Rattle.lines.specs.Questions.{DescribesPart}
+use Rattle.lines.specs.Machine.{Symbol, next, depth}
 use Rattle.lines.specs.Reading.{Goes, Fails, ItemsRead}
 use Rattle.lines.specs.Spots.{symbols}
 use Rattle.lines.specs.declared.fault.LineFault.{LineFault}
@@ -12,7 +11,6 @@ use Rattle.lines.specs.declared.question.Part.{Part}
 use Rattle.lines.specs.declared.spot.Spot.{Spot}
 use Rattle.lines.specs.declared.spot.Spot.TheVariants.{Square, MoreSquares, Cell, MoreCells, Edge}
 use Rattle.lines.specs.declared.spot.EdgeSpot.TheVariants.{From, Dash, FromDigits, To, Colour, ToDigits, MoreEdges}
-use Rattle.lines.proofs.Machine.{run_++}
 use Rattle.lines.proofs.Going.{fails_early, fails_wrong}
 use Rattle.lines.proofs.Underway.{Underway, underway_more, underway_fails, underway_part}
 

@@ -1,10 +1,10 @@
 -- One part of a line behind another. The line that a later step tells of is t', which is t.
 -- Assumes nothing.
-use Rattle.std.proofs.Common.{◌≡◌, ℕ, ◌+◌, ◌<◌, ◌≤◌, List, [], ◌∷◌, ◌++◌, length, get_or, drop, sym, refl, ap, ◌∙◌, subst, ap₂, append_assoc, arith}
+use Rattle.std.proofs.Common.{◌≡◌, ℕ, ◌+◌, ◌<◌, ◌≤◌, List, [], ◌∷◌, ◌++◌, length, get_or, drop, sym, ap, ◌∙◌, subst, append_assoc, arith}
 use mathlib.Core.Option.{none, some}
 use Rattle.std.proofs.lemmas.List.{drop_more}
 use Rattle.lines.specs.Machine.{Symbol, letters, next, depth}
-use Rattle.lines.specs.Reading.{Spans, Goes, Fails}
+use Rattle.lines.specs.Reading.{Goes, Fails}
 use Rattle.lines.specs.declared.fault.LineFault.{LineFault}
 use Rattle.lines.specs.declared.fault.LineFault.TheVariants.{WrongByte, EarlyEnd}
 use Rattle.lines.proofs.Depth.{depth_++}

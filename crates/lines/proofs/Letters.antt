@@ -1,10 +1,10 @@
 -- The words by their first letters, and the rules that these pick.
 -- Assumes nothing.
-use Rattle.std.proofs.Common.{◌≡◌, ℕ, ◌≤◌, List, [], ◌∷◌, ◌++◌, length, get_or, drop, refl, arith}
+use Rattle.std.proofs.Common.{◌≡◌, ◌≤◌, [], ◌∷◌, ◌++◌, length, get_or, drop, refl, arith}
 use mathlib.Core.Option.{some}
 use Rattle.games.specs.declared.side.Side.{Side}
 use Rattle.games.specs.declared.side.Side.TheVariants.{Left, Right}
-use Rattle.lines.specs.Machine.{Symbol, just, line_word, subject, subject-word, board, board-word, side, text, letters, next, depth}
+use Rattle.lines.specs.Machine.{line_word, subject-word, board-word, side, letters, next, depth}
 use Rattle.lines.specs.Syntax.{spell_side}
 use Rattle.lines.specs.Spots.{symbols}
 use Rattle.lines.specs.Words.{kind_word, kind_spot, heading_word, heading_rest, ask_word, ask_rest}

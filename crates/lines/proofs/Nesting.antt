@@ -1,11 +1,10 @@
 -- The brackets outside, as binary digits.
 -- Assumes nothing.
-use Rattle.std.proofs.Common.{◌≡◌, ℕ, zero, suc, ◌+◌, ◌-◌, ◌*◌, ◌/◌, ◌%◌, ◌^◌, ◌<◌, ◌≤◌, Bool, true, false, cond, eqb, List, [], ◌∷◌, ◌++◌, sym, refl, ap, ◌∙◌, subst, ap₂, pow-suc, add-one, arith, pow_mono}
-use mathlib.Core.Option.{none, some}
+use Rattle.std.proofs.Common.{◌≡◌, ℕ, zero, suc, ◌+◌, ◌-◌, ◌*◌, ◌/◌, ◌%◌, ◌^◌, ◌<◌, ◌≤◌, Bool, true, false, cond, eqb, List, ◌∷◌, sym, refl, ap, ◌∙◌, subst, ap₂, pow-suc, add-one, arith, pow_mono}
 use Rattle.games.specs.declared.side.Side.{Side}
 use Rattle.games.specs.declared.side.Side.TheVariants.{Left, Right}
 use Rattle.std.proofs.lemmas.Bool.{eq-eqb, ne_eqb}
-use Rattle.lines.specs.Machine.{Symbol, after-left, after-right, weight, depth, next}
+use Rattle.lines.specs.Machine.{Symbol, after-left, after-right, depth}
 use Rattle.lines.specs.Nests.{outers, after, symbol, weight_of}
 use Rattle.lines.specs.declared.nest.TextSpot.{TextSpot}
 use Rattle.lines.specs.declared.nest.TextSpot.TheVariants.{AfterLeft, AfterRight}

@@ -1,16 +1,16 @@
 -- What the machine takes to its end is a spelling.
 -- Assumes nothing.
-use Rattle.std.proofs.Common.{◌≡◌, ℕ, ◌+◌, ◌*◌, ◌<◌, true, false, cond, List, [], ◌∷◌, ◌++◌, map, codes, sym, refl, ap, ◌∙◌, subst, append_assoc, append-nil, arith}
+use Rattle.std.proofs.Common.{◌≡◌, ℕ, ◌+◌, ◌*◌, ◌<◌, List, [], ◌∷◌, ◌++◌, map, codes, sym, refl, ap, ◌∙◌, subst, append_assoc, append-nil, arith}
 use mathlib.Core.Option.{Option, none, some}
 use Rattle.games.specs.Form.{Form, Forms, form, ∅, ◌&◌}
-use Rattle.games.specs.Text.{Mark, open-mark, bar, close-mark, comma, byte, texts, more, bytes}
+use Rattle.games.specs.Text.{Mark, bar, close-mark, comma, byte, texts, more, bytes}
 use Rattle.games.specs.Text.{text as marks}
 use Rattle.games.specs.declared.side.Side.{Side}
 use Rattle.games.specs.declared.side.Side.TheVariants.{Left, Right}
 use Rattle.std.proofs.lemmas.List.{map-append}
 use Rattle.lines.specs.Syntax.{Items, Square, vacant, filled, Cell, toad, frog, blank, Colour, for_left, for_right, for-both, Edge, Board, domineering, toads, hackenbush, Subject, plain, minus, sum, written, Line, value, comparison, first_move}
-use Rattle.lines.specs.Syntax.{spell_more, spell_items, numeral, spell_square, spell_row, spell_cell, spell_colour, spell_edge, items_of, spell_board, spell_subject, spell_side, spell}
-use Rattle.lines.specs.Machine.{Symbol, just, line, line_word, subject, subject-word, board, board-word, side, squares, more-squares, cells, more-cells, from, from-digits, to, to-digits, colour, more_edges, text, in_left, after-left, in_right, after-right, letters, nonzero_then, digit_then, board_rules, rules, pick, onto, next, step, run}
+use Rattle.lines.specs.Syntax.{spell_more, spell_items, numeral, spell_square, spell_row, spell_cell, spell_colour, spell_edge, spell_board, spell_subject, spell_side, spell}
+use Rattle.lines.specs.Machine.{Symbol, just, line, line_word, subject, subject-word, board, board-word, side, squares, more-squares, cells, more-cells, from, from-digits, to, to-digits, colour, more_edges, text, in_left, after-left, in_right, after-right, letters, nonzero_then, board_rules, rules, pick, onto, run}
 use Rattle.lines.proofs.Machine.{never_some, Each, picked}
 use Rattle.lines.proofs.Numerals.{ascii, numeral_zero, numeral_one, numeral_more}
 

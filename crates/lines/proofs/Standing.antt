@@ -1,14 +1,14 @@
 -- Where the machine stands in a line: one byte on, a fault, or the end.
 -- Assumes nothing.
-use Rattle.std.proofs.Common.{◌≡◌, ℕ, zero, suc, ◌+◌, ◌-◌, ◌<◌, ◌≤◌, ◌⊎◌, List, [], ◌∷◌, ◌++◌, length, get_or, take, drop, sym, refl, ap, ◌∙◌, subst, inl, inr, append_assoc, append-nil, add-one, arith}
+use Rattle.std.proofs.Common.{◌≡◌, ℕ, zero, suc, ◌+◌, ◌<◌, ◌≤◌, List, [], ◌∷◌, ◌++◌, length, get_or, take, sym, refl, ap, ◌∙◌, subst, add-one, arith}
 use mathlib.Core.Option.{Option, none, some}
 use native.Mathlib.Decide.{dec_le}
-use Rattle.std.proofs.lemmas.List.{take_more, take_all, take-take, take-append-drop, length-take-le}
-use Rattle.calls.specs.Texts.{times, nesting, Shallow}
+use Rattle.std.proofs.lemmas.List.{take_more, take_all, take-take, length-take-le}
+use Rattle.calls.specs.Texts.{nesting, Shallow}
 use Rattle.lines.specs.Syntax.{Line, spell}
 use Rattle.lines.specs.Faults.{RightLine, GoesOn, Fault, wrong_byte, early_end, too_deep}
 use Rattle.lines.specs.Machine.{Symbol, line, next, step, run, depth, Stands}
-use Rattle.lines.proofs.Machine.{run_++, run_none, never_some, completes}
+use Rattle.lines.proofs.Machine.{run_++, never_some, completes}
 use Rattle.lines.proofs.Sound.{sound, alone}
 use Rattle.lines.proofs.Complete.{run_line}
 use Rattle.lines.proofs.Depth.{nesting_is}

@@ -1,9 +1,8 @@
 -- The text of a form, byte by byte.
 -- Assumes nothing.
-use Rattle.std.proofs.Common.{◌≡◌, ℕ, ◌+◌, ◌-◌, ◌<◌, ◌≤◌, List, [], ◌∷◌, ◌++◌, length, get_or, take, drop, sym, refl, ap, ◌∙◌, subst, arith}
+use Rattle.std.proofs.Common.{◌≡◌, ℕ, ◌+◌, ◌-◌, ◌<◌, ◌≤◌, List, [], ◌∷◌, length, get_or, take, drop, sym, refl, ap, ◌∙◌, subst, arith}
 use mathlib.Core.Option.{none, some}
 use Rattle.lines.specs.Machine.{Symbol, text, next, weight, depth}
-use Rattle.lines.specs.Questions.{DescribesPart}
 use Rattle.lines.specs.Reading.{Goes, Fails, TextRead}
 use Rattle.lines.specs.Nests.{symbol, weight_of, outers, stack, Sound}
 use Rattle.lines.specs.declared.fault.LineFault.{LineFault}

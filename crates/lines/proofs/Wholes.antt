@@ -1,17 +1,16 @@
 -- The parts of a line put together: where each ends, where it fails, and what it is.
 -- Assumes nothing.
 use Rattle.std.proofs.Common.{◌≡◌, ℕ, ◌+◌, ◌<◌, ◌≤◌, List, [], ◌∷◌, ◌++◌, length, drop, codes, Result, sym, refl, ap, ◌∙◌, subst, append_assoc, arith, MatchResult}
-use mathlib.Core.Option.{none, some}
 use Rattle.calls.specs.Texts.{Shallow}
 use Rattle.lines.specs.Faults.{RightLine}
 use Rattle.std.proofs.lemmas.List.{append_cancel_right, append-nil, length-append, drop_all, take_all}
 use Rattle.std.proofs.lemmas.Result.{MatchResult-weaker}
 use Rattle.games.specs.declared.side.Side.{Side}
-use Rattle.lines.specs.Machine.{Symbol, just, line, subject, board, side, squares, cells, from, text, run, weight, depth, Stands}
-use Rattle.lines.specs.Questions.{Faulty, DescribesPart, kind_of, DescribesBoard, DescribesContent, a_plain, a_minus, a_sum, a_form, DescribesSubject, a_value, a_comparison, a_first_move}
+use Rattle.lines.specs.Machine.{Symbol, just, line, squares, cells, from, depth, Stands}
+use Rattle.lines.specs.Questions.{Faulty, DescribesPart, kind_of, DescribesBoard, a_plain, a_minus, a_sum, a_form, DescribesSubject, a_value, a_comparison, a_first_move}
 use Rattle.lines.specs.Reading.{Goes, Fails, ItemsRead, TextRead, BoardRead, BoardRest, SubjectRead, ContentRest, QuestionRest, QuestionRead}
 use Rattle.lines.specs.Spots.{symbols}
-use Rattle.lines.specs.Syntax.{Board, domineering, toads, hackenbush, Subject, plain, minus, sum, written, Line, value, comparison, first_move, spell, heading as heading-of, items_of, spell_board, spell_subject, spell_side}
+use Rattle.lines.specs.Syntax.{Board, domineering, toads, hackenbush, plain, minus, sum, written, Line, value, comparison, first_move, spell, heading as heading-of, items_of, spell_board, spell_subject, spell_side}
 use Rattle.lines.specs.Words.{kind_word, kind_spot, heading_word, heading_rest, ask_word}
 use Rattle.lines.specs.declared.fault.LineFault.{LineFault}
 use Rattle.lines.specs.declared.fault.LineFault.TheVariants.{WrongByte}
@@ -30,7 +29,7 @@ use Rattle.lines.specs.declared.words.Ask.TheVariants.{Value, Compare, Move}
 use Rattle.lines.specs.declared.words.Heading.{Heading}
 use Rattle.lines.specs.declared.words.Heading.TheVariants.{Minus, Sum, Form, Board as BoardHeading}
 use Rattle.lines.proofs.Sound.{sound, alone}
-use Rattle.lines.proofs.Going.{goes_under, goes_++, goes_line, fails_under, fails_after, fails_line}
+use Rattle.lines.proofs.Going.{goes_under, goes_++, goes_line, fails_after, fails_line}
 use Rattle.lines.proofs.Standing.{stands_start, stands_wrong}
 use Rattle.lines.proofs.Joining.{then_goes, then_fails}
 

@@ -1,4 +1,6 @@
 // The calculator's line language: its grammar (specs/), and a reader that takes a line apart.
+#![tactic(auto)]
+
 pub mod fault;
 pub mod laws;
 mod nest;

@@ -1,6 +1,6 @@
 -- The two tables of a memory.
 -- Assumes nothing.
-use Rattle.std.proofs.Common.{◌≡◌, ℕ, List, [], vec_items, inl, inr}
+use Rattle.std.proofs.Common.{◌≡◌, ℕ, [], vec_items, inl, inr}
 use Rattle.memory.specs.declared.memory.Memory.{Memory}
 use Rattle.memory.specs.declared.slots.Slots.{Slots}
 use Rattle.memory.specs.declared.direct.Direct.{Direct}

@@ -1,6 +1,6 @@
 -- Places of a table that are taken, and tables whose places are free.
 -- Assumes nothing.
-use Rattle.std.proofs.Common.{◌≡◌, ℕ, zero, suc, ◌-◌, ◌<◌, ◌≤◌, Bool, true, false, cond, not, List, [], ◌++◌, length, get_or, take, replicate, sym, refl, ap, ◌∙◌, subst, ap₂, subst₂, inl, inr, arith}
+use Rattle.std.proofs.Common.{◌≡◌, ℕ, zero, suc, ◌-◌, ◌<◌, Bool, true, false, cond, not, List, [], ◌++◌, length, get_or, take, replicate, sym, refl, ap, ◌∙◌, subst, ap₂, subst₂, inl, inr, arith}
 use lib.Seq.{take-nil}
 use Rattle.std.proofs.lemmas.List.{get_or_default}
 use Rattle.memory.specs.declared.slot.Slot.{Slot}

@@ -1,4 +1,6 @@
 // Positions of unlike boards, their negatives and sums of them: what each ruleset tells, and the outcome by play.
+#![tactic(auto)]
+
 use domineering::board::Board;
 use games::side::Side;
 use hackenbush::edge::{Colour, Edge};

@@ -3,7 +3,7 @@
 use Rattle.std.proofs.Common.{◌≡◌, ℕ, zero, suc, ◌+◌, ◌<◌, ◌≤◌, Bool, true, false, ◌||◌, eqb, ltb, List, [], ◌∷◌, ◌++◌, length, get_or, take, drop, vec_items, vec_len, Ordering, Less, Equal, Greater, sym, refl, ap, ◌∙◌, subst, ap₂, inl, inr, arith}
 use Rattle.std.proofs.lemmas.Bool.{and_parts, and_from, ltb-true, lt-ltb, or_left, or_right, or_cases, eqb-true, eq-eqb, cases_lt, false≢true}
 use Rattle.std.proofs.lemmas.List.{get_or-map}
-use Rattle.games.specs.Form.{Form, ◌&◌, ◌∈◌, there}
+use Rattle.games.specs.Form.{Form, ◌&◌, ◌∈◌}
 use Rattle.games.specs.Order.{◌≈◌}
 use Rattle.games.specs.Listing.{listing, ◌≺◌, Rising}
 use Rattle.games.specs.Tests.{rising}

@@ -1,4 +1,6 @@
 // Sealing: the nodes of a dictionary as tables, and what two sets of nodes seal to.
+#![tactic(auto)]
+
 mod compare;
 mod nodes;
 mod order;

@@ -1,4 +1,6 @@
 // Stores of rows: numbered nodes, each with the numbers of its Left options and of its Right options.
+#![tactic(auto)]
+
 pub mod fault;
 pub mod laws;
 pub mod row;

@@ -1,4 +1,6 @@
 // Makes one script of calls on both stores, and prints what each was asked and answered.
+#![tactic(auto)]
+
 mod script;
 mod shown;
 

@@ -1,6 +1,6 @@
-use Rattle.std.proofs.Common.{◌∷◌, refl, ap, arith}
+use Rattle.std.proofs.Common.{◌∷◌, ap, arith}
 use Rattle.lines.specs.Machine.{in_left, next}
-use Rattle.lines.specs.Nests.{outers, symbol, weight_of}
+use Rattle.lines.specs.Nests.{outers, symbol}
 use Rattle.lines.proofs.Nesting.{depth_outers}
 use Rattle.lines.proofs.nest.Nest.open.Goals as goal
 

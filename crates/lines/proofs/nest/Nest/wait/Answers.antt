@@ -1,4 +1,4 @@
-use Rattle.std.proofs.Common.{◌<◌, ◌∷◌, refl, ap, arith}
+use Rattle.std.proofs.Common.{◌∷◌, refl, ap, arith}
 use Rattle.lines.specs.Machine.{text}
 use Rattle.lines.proofs.Nesting.{Waited, waited_left, waited_right, digits_fit}
 use Rattle.lines.proofs.nest.Nest.wait.Goals as goal

@@ -1,7 +1,6 @@
 use Rattle.std.proofs.Common.{[], ◌∷◌, sym, refl, ap, ◌∙◌}
 use Rattle.std.proofs.lemmas.Result.{err_from_is_err_and}
 use Rattle.lines.specs.Machine.{side, next}
-use Rattle.lines.specs.Syntax.{spell_side}
 use Rattle.lines.proofs.Going.{fails_early, fails_wrong, takes_one}
 use Rattle.lines.proofs.Letters.{side_begins, side_spelt}
 use Rattle.lines.proofs.reader.Reader.side.Goals as goal

@@ -1,7 +1,6 @@
 use Rattle.std.proofs.Common.{◌<◌, length, refl, subst, arith}
 use Rattle.std.proofs.lemmas.Result.{err_from_is_err_and}
 use Rattle.lines.proofs.TextParts.{text_early, text_wrong, text_deep, text_more, text_end, text_start}
-use Rattle.lines.proofs.Underway.{underway_order}
 use Rattle.lines.proofs.reader.Reader.text.Goals as goal
 
 pub loop-next-init : goal.loop-next-init

@@ -1,5 +1,5 @@
 -- Whether or not the other table was tried first.
-use Rattle.std.proofs.Common.{sym, subst}
+use Rattle.std.proofs.Common.{subst}
 use Rattle.memory.specs.Memories.{Holds}
 use Rattle.memory.proofs.memory.Memory.grow.Goals as goal
 use Rattle.memory.proofs.memory.Memory.grow.Goals.{then-places-lt-SWITCH-via-then-places-lt-SWITCH, then-places-lt-SWITCH-via-else-places-lt-SWITCH+then-not-switch}

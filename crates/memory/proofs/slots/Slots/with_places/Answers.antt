@@ -1,5 +1,5 @@
 -- Every place is free.
-use Rattle.std.proofs.Common.{◌≡◌, replicate, vec_items, ◌∙◌, subst, rules}
+use Rattle.std.proofs.Common.{◌≡◌, replicate, vec_items, ◌∙◌, subst}
 use Rattle.memory.specs.Holds.{free, Among}
 use Rattle.memory.proofs.Tables.{filled, none_held}
 use Rattle.memory.proofs.slots.Slots.with_places.Goals as goal
