@@ -104,7 +104,8 @@ call_kept k (Call.value R l code v) = kept_grown k (values_grows v)
 call_kept k (Call.first_move R l s code v) = kept_grown k (moves_grows v)
 call_kept k (Call.read t r) = kept_grown k (reads_grows r)
 call_kept k (Call.open_draft i) = kept_holding i no_numbers _ k
-call_kept k (Call.put i s n l m) = kept_holding i _ _ k
+call_kept k (Call.put_number i s n l m) = kept_holding i _ _ k
+call_kept k (Call.put_refused i s n l m) = k
 call_kept k (Call.abandon i slips e) = kept_holding i no_numbers slips k
 call_kept k (Call.seal i slips e s) = kept_holding i no_numbers slips (kept_grown k (numbers_grows k s))
 call_kept k (Call.print n room w) = record { sound = k.sound; correct = k.correct; covered = k.covered; texts = kept_printed k w }
@@ -123,7 +124,8 @@ call_extends k (Call.value R l code v) = (values_grows v).extends
 call_extends k (Call.first_move R l s code v) = (moves_grows v).extends
 call_extends k (Call.read t r) = (reads_grows r).extends
 call_extends {p = p} k (Call.open_draft i) = extends_refl p.rows
-call_extends {p = p} k (Call.put i s n l m) = extends_refl p.rows
+call_extends {p = p} k (Call.put_number i s n l m) = extends_refl p.rows
+call_extends {p = p} k (Call.put_refused i s n l m) = extends_refl p.rows
 call_extends {p = p} k (Call.abandon i slips e) = extends_refl p.rows
 call_extends k (Call.seal i slips e s) = (numbers_grows k s).extends
 call_extends {p = p} k (Call.print n room w) = extends_refl p.rows

@@ -27,7 +27,8 @@ use Rattle.calls.specs.Texts.{Written, Fault, closings}
 use Rattle.calls.specs.Reading.{Reads}
 use Rattle.calls.specs.Asking.{Compares, TellsOutcome, Prints}
 use Rattle.calls.specs.Sound.{Sound}
-use Rattle.calls.specs.Drafts.{put, Puts}
+use Rattle.calls.specs.Drafts.{Puts}
+use Rattle.calls.specs.Runs.{put}
 use Rattle.calls.specs.Outcomes.{ExactlyOne, Effect, TextsHaveOneVerdict, ComparingHasOneOutcome, TellingHasOneOutcome, SealingHasOneOutcome, ValuingHasOneOutcome, ReadingHasOneOutcome, PrintingHasOneOutcome, FirstMoveHasAnOutcome, PuttingHasOneOutcome}
 use Rattle.calls.specs.Laws.{Equal, none_left, SealingGoesByNumbers, equal_next}
 use Rattle.calls.proofs.Sealing.{Node, seals_≈}

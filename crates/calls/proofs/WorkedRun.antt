@@ -17,8 +17,7 @@ use Rattle.calls.specs.Positions.{Values}
 use Rattle.calls.specs.Texts.{times, Shallow}
 use Rattle.calls.specs.Reading.{Reads}
 use Rattle.calls.specs.Asking.{Prints}
-use Rattle.calls.specs.Drafts.{put, taken, too_large}
-use Rattle.calls.specs.Runs.{Past, new, grown, holding, opened, printing, draft_game, Call, none_yet, one_more, Reached}
+use Rattle.calls.specs.Runs.{Past, new, grown, holding, printing, put, draft_game, Call, none_yet, one_more, Reached}
 use Rattle.calls.specs.WorkedRun.{counter, row_of_1, row_of_2, WorkedRun}
 
 -- the rows, as they grow
@@ -156,20 +155,17 @@ abbrev after_read : Past
 after_read = grown after_refusal upto_2 (entry 2 wide ∷ entry 1 𝟏 ∷ entry 0 𝟎 ∷ entry 0 𝟎 ∷ [])
 
 abbrev after_open : Past
-after_open = opened after_read 0
+after_open = holding after_read 0 no_numbers 1
 
 abbrev after_put : Past
 after_put = holding after_open 0 (put Left 1 no_numbers) 1
-
-abbrev after_refused_put : Past
-after_refused_put = holding after_put 0 (put Left 1 no_numbers) 1
 
 sealed : SealsNumbers 3 upto_2 (put Left 1 no_numbers) (told 2) upto_2
 unfolding node ge
 sealed = known (record { on_left = (omega arith, tt); on_right = tt }) (found 2 (omega arith) (record { above = record { holds = tt }; below = record { holds = tt } }))
 
 abbrev after_seal : Past
-after_seal = holding (grown after_refused_put upto_2 (entry 2 (draft_game after_refused_put 0) ∷ [])) 0 no_numbers 0
+after_seal = holding (grown after_put upto_2 (entry 2 (draft_game after_put 0) ∷ [])) 0 no_numbers 0
 
 abbrev after_print : Past
 after_print = printing after_seal 2 (bytes (form (𝟏 & ∅) ∅))
@@ -184,8 +180,8 @@ reached = one_more (one_more (one_more (one_more (one_more (one_more (one_more (
     (Call.value counter counter_lawful 7 refused_value))
     (Call.read (bytes wide) text_read))
     (Call.open_draft 0))
-    (Call.put 0 Left 1 (omega arith) (taken (omega arith))))
-    (Call.put 0 Left 384 (omega arith) (too_large (omega arith))))
+    (Call.put_number 0 Left 1 (omega arith) (omega arith)))
+    (Call.put_refused 0 Left 384 (omega arith) (omega arith)))
     (Call.seal 0 0 refl sealed))
     (Call.print 2 16 print_2)
 

@@ -1,7 +1,8 @@
 -- Lists of calls on a dictionary and its drafts, and what they leave.
 -- Assumes nothing.
-use Rattle.std.specs.Prelude.{◌≡◌, ℕ, suc, ◌<◌, cond, List, [], ◌∷◌, ◌++◌, Option, ◌==◌}
+use Rattle.std.specs.Prelude.{◌≡◌, ℕ, suc, ◌<◌, ◌≤◌, cond, List, [], ◌∷◌, ◌++◌, Option, ◌==◌}
 use Rattle.games.specs.declared.side.Side.{Side}
+use Rattle.games.specs.declared.side.Side.TheVariants.{Left, Right}
 use Rattle.games.specs.Form.{Form, 𝟎}
 use Rattle.games.specs.Numbered.{Lists, form_by}
 use Rattle.rulesets.specs.Rules.{Rules, Lawful}
@@ -12,7 +13,6 @@ use Rattle.calls.specs.Entering.{Entry, made}
 use Rattle.calls.specs.Positions.{Values, FirstMoves}
 use Rattle.calls.specs.Reading.{Reads}
 use Rattle.calls.specs.Asking.{Prints}
-use Rattle.calls.specs.Drafts.{Puts}
 
 -- a text that a print wrote, and the number that was printed
 pub record Printed : Type 0 where
@@ -44,6 +44,11 @@ holding p i d slips = record { rows = p.rows; entries = p.entries; drafts = λ j
 abbrev pub printing : Past → ℕ → List ℕ → Past
 printing p n t = record { rows = p.rows; entries = p.entries; drafts = p.drafts; slips = p.slips; printed = record { number = n; text = t } ∷ p.printed }
 
+-- a draft with one more number put
+abbrev pub put : Side → ℕ → Lists → Lists
+put Left n d = record { left = n ∷ d.left; right = d.right }
+put Right n d = record { left = d.left; right = n ∷ d.right }
+
 -- the game of a number: that of the latest entry that was told it
 abbrev pub latest : List Entry → ℕ → Form
 latest [] n = 𝟎
@@ -73,11 +78,12 @@ pub data Call (capacity : ℕ) : Past → Past → Type 0 where
   first_move : {p : Past} {a : Answer (Option ℕ)} {after : Rows} {es : List Entry} (R : Rules) → Lawful R → (s : Side) (code : ℕ)
       → FirstMoves R capacity p.rows s code a after es → Call capacity p (grown p after es)
   read : {p : Past} {a : Answer ℕ} {after : Rows} {es : List Entry} (t : List ℕ) → Reads capacity p.rows t a after es → Call capacity p (grown p after es)
-  open_draft : {p : Past} (i : ℕ) → Call capacity p (opened p i)
-  put : {p : Past} {a : Answer (Unit {0})} {d : Lists} (i : ℕ) (s : Side) (n : ℕ) → 0 < p.slips → Puts s n (p.drafts i) a d → Call capacity p (holding p i d p.slips)
-  abandon : {p : Past} (i slips : ℕ) → p.slips ≡ suc slips → Call capacity p (abandoned p i slips)
+  open_draft : {p : Past} (i : ℕ) → Call capacity p (holding p i no_numbers (suc p.slips))
+  put_number : {p : Past} (i : ℕ) (s : Side) (n : ℕ) → 0 < p.slips → n ≤ 383 → Call capacity p (holding p i (put s n (p.drafts i)) p.slips)
+  put_refused : {p : Past} (i : ℕ) (s : Side) (n : ℕ) → 0 < p.slips → 383 < n → Call capacity p p
+  abandon : {p : Past} (i slips : ℕ) → p.slips ≡ suc slips → Call capacity p (holding p i no_numbers slips)
   seal : {p : Past} {a : Answer ℕ} {after : Rows} (i slips : ℕ) → p.slips ≡ suc slips → SealsNumbers capacity p.rows (p.drafts i) a after
-      → Call capacity p (sealed p i slips a after)
+      → Call capacity p (holding (grown p after (made a (draft_game p i))) i no_numbers slips)
   print : {p : Past} {size : ℕ} {t : List ℕ} (n room : ℕ) → Prints p.rows n room (told size) t → Call capacity p (printing p n t)
   print_refused : {p : Past} {k : ℕ} {t : List ℕ} (n room : ℕ) → Prints p.rows n room (refused k) t → Call capacity p p
 

@@ -9,7 +9,7 @@ use Rattle.std.proofs.lemmas.Bool.{cases_eq, cases_lt}
 use Rattle.nodesets.specs.Pairs.{Sets, by}
 use Rattle.nodesets.proofs.Words.{mem_past}
 use Rattle.calls.specs.Rows.{◌among◌, first, later, no_numbers}
-use Rattle.calls.specs.Drafts.{put}
+use Rattle.calls.specs.Runs.{put}
 use Rattle.dictionary.specs.Kept.{ListsOf}
 use Rattle.drafts.specs.Holding.{DraftsHold}
 

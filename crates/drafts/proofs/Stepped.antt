@@ -1,6 +1,7 @@
 -- What the calls on a draft do makes them calls of a run.
 -- Assumes nothing.
-use Rattle.std.proofs.Common.{◌≡◌, ℕ, suc, ◌<◌, true, cond, eqb, sym, refl, ap, subst, eq-eqb}
+use Rattle.std.proofs.Common.{◌≡◌, ℕ, suc, ◌<◌, Bool, true, false, cond, eqb, sym, refl, ap, subst, eq-eqb}
+use Rattle.std.proofs.lemmas.Bool.{eqb-true}
 use Rattle.games.specs.declared.side.Side.{Side}
 use Rattle.games.specs.Numbered.{Lists}
 use Rattle.calls.specs.Rows.{Rows, no_numbers}
@@ -8,6 +9,7 @@ use Rattle.calls.specs.Answers.{Answer}
 use Rattle.calls.specs.Sealing.{SealsNumbers}
 use Rattle.calls.specs.Positions.{FirstMoves, Values}
 use Rattle.calls.specs.Reading.{Reads}
+use Rattle.calls.specs.Drafts.{Puts}
 use Rattle.calls.specs.Runs.{Past, Call, holding}
 use Rattle.drafts.specs.declared.draft.Draft.{Draft}
 use Rattle.drafts.specs.Holding.{Holds, PutsInto}
@@ -20,8 +22,20 @@ given d p i l slips h = subst (λ b. Holds d (cond b l (p.drafts i))) (sym (eq-e
 pub open_steps : (after : Draft) → Holds after no_numbers → OpenSteps after
 open_steps after h c p i = record { call = Call.open_draft i; rows = refl; draft = given after p i no_numbers (suc p.slips) h }
 
+-- a draft that has what it had is as it was
+same_draft : (p : Past) (i : ℕ) → holding p i (p.drafts i) p.slips ≡ p
+same_draft p i = λ k. record { rows = p.rows; entries = p.entries; drafts = λ j. by (eqb j i) j (λ t. ap p.drafts (sym (eqb-true j i t))) k; slips = p.slips; printed = p.printed }
+  where
+    by : (b : Bool) (j : ℕ) → (b ≡ true → p.drafts i ≡ p.drafts j) → cond b (p.drafts i) (p.drafts j) ≡ p.drafts j
+    by true j e = e refl
+    by false j e = refl
+
+put_call : {s : Side} {n : ℕ} {a : Answer (Unit {0})} {d : Lists} (c : ℕ) (p : Past) (i : ℕ) → 0 < p.slips → Puts s n (p.drafts i) a d → Call c p (holding p i d p.slips)
+put_call {s} {n} c p i slip (Puts.taken h) = Call.put_number i s n slip h
+put_call {s} {n} c p i slip (Puts.too_large h) = subst (λ q. Call c p q) (sym (same_draft p i)) (Call.put_refused i s n slip h)
+
 pub put_steps : (before after : Draft) (s : Side) (n : ℕ) (a : Answer (Unit {0})) → PutsInto before s n a after → PutSteps before s n a after
-put_steps before after s n a puts c p i slip held = let (d, x, h) = puts (p.drafts i) held in (d, x, record { call = Call.put i s n slip x; rows = refl; draft = given after p i d p.slips h })
+put_steps before after s n a puts c p i slip held = let (d, x, h) = puts (p.drafts i) held in (d, x, record { call = put_call c p i slip x; rows = refl; draft = given after p i d p.slips h })
 
 pub abandon_steps : (after : Draft) → Holds after no_numbers → AbandonSteps after
 abandon_steps after h c p i slips e = record { call = Call.abandon i slips e; rows = refl; draft = given after p i no_numbers slips h }

@@ -78,10 +78,9 @@ impl NodeSet {
     pub fn common(&self, other: &NodeSet) -> Option<usize>
         ensures { MatchOption result (Meet (has self.now) (has other.now) → ⊥) (λ k. Lowest (has self.now) (has other.now) k) }
     {
-        for i in 0..6 {
-            let both = self.words[i] & other.words[i];
-            if both != 0 {
-                return Some(i * 64 + both.trailing_zeros() as usize);
+        for k in 0..NODES {
+            if self.contains(k) && other.contains(k) {
+                return Some(k);
             }
         }
         None
@@ -91,7 +90,12 @@ impl NodeSet {
     pub fn is_below(&self, n: usize) -> bool
         ensures { Decides result ((k : ℕ) → has self.now k ≡ true → k < n) }
     {
-        self.next_inside(n) >= NODES
+        for k in 0..NODES {
+            if k >= n && self.contains(k) {
+                return false;
+            }
+        }
+        true
     }
 
     // The lowest number from `from` on that is not in the set; 384 where there is none.

@@ -2,7 +2,8 @@
 use Rattle.std.proofs.Common.{arith}
 use Rattle.nodesets.specs.Pairs.{by}
 use Rattle.calls.specs.Answers.{told, refused}
-use Rattle.calls.specs.Drafts.{put, taken, too_large}
+use Rattle.calls.specs.Drafts.{taken, too_large}
+use Rattle.calls.specs.Runs.{put}
 use Rattle.drafts.specs.Holding.{PutsInto}
 use Rattle.drafts.proofs.Held.{lists_put}
 use Rattle.drafts.proofs.Stepped.{put_steps}

@@ -1,11 +1,12 @@
--- The first word that has a bit of both has the lowest number; where there is none, the sets do not meet.
-use Rattle.std.proofs.Common.{arith, rules}
-use Rattle.nodesets.proofs.Words.{no_meet}
-use Rattle.nodesets.proofs.Next.{lowest_common}
+-- No lower node is in both; past the words there is none.
+use Rattle.std.proofs.Common.{inl, inr, arith}
+use Rattle.std.proofs.lemmas.Bool.{cases_lt, both_ways}
+use Rattle.nodesets.specs.Sets.{has}
+use Rattle.nodesets.proofs.Words.{mem_past}
 use Rattle.nodesets.proofs.nodeset.NodeSet.common.Goals as goal
 
-pub returns-then-both-ne0 : goal.returns-then-both-ne0
-returns-then-both-ne0 c = lowest_common c.args.self.now.words c.args.other.now.words c.loop-i.i (search rules) c.loop-i.invariant c.if-both-ne0.true
-
 pub returns : goal.returns
-returns c m = no_meet c.args.self.now.words c.args.other.now.words (search rules) (λ k h. c.loop-i.invariant k (omega arith)) m
+returns c (k, a, b) = elim (cases_lt k 384) [
+  | inl h ↦ c.loop-k.invariant k (omega arith) (a, b)
+  | inr h ↦ both_ways (has c.args.self.now k) (mem_past c.args.self.now.words k c.args.self.now.six h) a
+]
