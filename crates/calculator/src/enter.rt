@@ -16,7 +16,7 @@ use reading::read::read;
 use rulesets::ruleset::Ruleset;
 use stores::store::Store;
 use sums::minus::Minus;
-use valuing::value::value;
+use valuing::remembering::value::value;
 
 impl<S: Store> Calculator<S> {
     // Values a position that stands at a place of the line; what valuing refuses is refused there.

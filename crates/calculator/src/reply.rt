@@ -15,7 +15,7 @@ use games::outcome::Comparison;
 use games::side::Side;
 use lines::question::{Board, Subject};
 use stores::store::Store;
-use valuing::first_move::first_move;
+use valuing::remembering::first_move::first_move;
 
 // The longest answer, in bytes.
 const LONGEST: usize = 4096;

@@ -11,7 +11,7 @@ use memory::memory::Memory;
 use ordered_store::ordered::OrderedList;
 use reading::read::read;
 use stores::store::Store;
-use valuing::value::value;
+use valuing::remembering::value::value;
 
 // What is put on the Left and on the Right, by the numbers of nodes: 0 is 0, 1 is 1, 2 is 2 and 3 is *.
 const FORMS: [(&'static str, &'static [u16], &'static [u16]); 10] = [

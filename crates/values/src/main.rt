@@ -1,11 +1,10 @@
-// Positions of every board, a minus and sums, valued in one dictionary over each store: the node of each, its outcome, and the text of its canonical form.
+// Positions of every board, a minus and sums, valued in one dictionary over each store: the node of each, and its outcome.
 use dictionary::dictionary::Dictionary;
 use domineering::board::Board;
 use games::side::Side;
 use hackenbush::edge::{Colour, Edge};
 use hackenbush::picture::Picture;
 use hashed_store::table::HashTable;
-use memory::memory::Memory;
 use ordered_store::ordered::OrderedList;
 use rulesets::fault::BoardFault;
 use rulesets::ruleset::Ruleset;
@@ -15,13 +14,6 @@ use sums::sum::Sum;
 use toads::text::Position;
 use valuing::first_move::first_move;
 use valuing::value::value;
-
-// A dictionary, and the memory that is lent for valuing.
-#[derive(Drop)]
-struct Desk<S> {
-    dictionary: Dictionary<S>,
-    memory: Memory,
-}
 
 fn main(rt: HostRuntime) -> anyhow::Result<()> {
     run(&rt)
@@ -40,39 +32,40 @@ fn run(rt: &HostRuntime) -> anyhow::Result<()> {
 }
 
 fn show<S: Store + Drop>(rt: &HostRuntime, store: S) -> anyhow::Result<()> {
-    let mut desk = Desk {
-        dictionary: Dictionary::begin(rt.alloc(), store)?,
-        memory: Memory::new(rt.alloc()),
-    };
-    strip(rt, &mut desk, "T.F")?;
-    boards(rt, &mut desk)?;
-    strip(rt, &mut desk, "TF.")?;
-    pictures(rt, &mut desk)?;
-    moves(rt, &mut desk)?;
+    let mut dictionary = Dictionary::begin(rt.alloc(), store)?;
+    strip(rt, &mut dictionary, "T.F")?;
+    boards(rt, &mut dictionary)?;
+    strip(rt, &mut dictionary, "TF.")?;
+    pictures(rt, &mut dictionary)?;
+    moves(rt, &mut dictionary)?;
     Ok(())
 }
 
-fn strip<S: Store>(rt: &HostRuntime, desk: &mut Desk<S>, cells: &str) -> anyhow::Result<()> {
+fn strip<S: Store>(
+    rt: &HostRuntime,
+    dictionary: &mut Dictionary<S>,
+    cells: &str,
+) -> anyhow::Result<()> {
     if let Ok(position) = Position::read(cells.as_bytes()) {
-        tell(rt, desk, cells, &position.strip, position.code)?;
+        tell(rt, dictionary, cells, &position.strip, position.code)?;
     }
     Ok(())
 }
 
-fn boards<S: Store>(rt: &HostRuntime, desk: &mut Desk<S>) -> anyhow::Result<()> {
+fn boards<S: Store>(rt: &HostRuntime, dictionary: &mut Dictionary<S>) -> anyhow::Result<()> {
     if let Ok(cell) = Board::new(1, 1) {
-        tell(rt, desk, ".", &cell, 0)?;
+        tell(rt, dictionary, ".", &cell, 0)?;
     }
     if let Ok(square) = Board::new(2, 2) {
-        tell(rt, desk, "#./..", &square, 1)?;
-        tell(rt, desk, "../..", &square, 0)?;
-        tell(rt, desk, "a code at the limit", &square, 16)?;
+        tell(rt, dictionary, "#./..", &square, 1)?;
+        tell(rt, dictionary, "../..", &square, 0)?;
+        tell(rt, dictionary, "a code at the limit", &square, 16)?;
     }
     Ok(())
 }
 
 // Two pictures of two edges, a minus, and sums with it.
-fn pictures<S: Store>(rt: &HostRuntime, desk: &mut Desk<S>) -> anyhow::Result<()> {
+fn pictures<S: Store>(rt: &HostRuntime, dictionary: &mut Dictionary<S>) -> anyhow::Result<()> {
     let Ok(half) = stalk(Colour::Right) else {
         return Ok(());
     };
@@ -80,16 +73,16 @@ fn pictures<S: Store>(rt: &HostRuntime, desk: &mut Desk<S>) -> anyhow::Result<()
         return Ok(());
     };
     let minus = Minus::new(half);
-    tell(rt, desk, "0-1L,1-2R", &half, 3)?;
-    tell(rt, desk, "0-1L,1-2B", &flower, 3)?;
-    tell(rt, desk, "minus 0-1L,1-2R", &minus, 3)?;
+    tell(rt, dictionary, "0-1L,1-2R", &half, 3)?;
+    tell(rt, dictionary, "0-1L,1-2B", &flower, 3)?;
+    tell(rt, dictionary, "minus 0-1L,1-2R", &minus, 3)?;
     if let Ok(zero) = Sum::new(half, minus) {
-        tell(rt, desk, "0-1L,1-2R and its minus", &zero, 15)?;
+        tell(rt, dictionary, "0-1L,1-2R and its minus", &zero, 15)?;
         if let Ok(nested) = Sum::new(half, zero) {
-            tell(rt, desk, "0-1L,1-2R and that sum", &nested, 63)?;
+            tell(rt, dictionary, "0-1L,1-2R and that sum", &nested, 63)?;
         }
     }
-    tell(rt, desk, "0-1L,1-2R, the red edge floating", &half, 2)
+    tell(rt, dictionary, "0-1L,1-2R, the red edge floating", &half, 2)
 }
 
 // An edge of Left's on the ground, and one of the colour on top of it.
@@ -109,43 +102,27 @@ fn stalk(colour: Colour) -> Result<Picture, BoardFault> {
 
 fn tell<S: Store, R: Ruleset>(
     rt: &HostRuntime,
-    desk: &mut Desk<S>,
+    dictionary: &mut Dictionary<S>,
     name: &str,
     board: &R,
     code: u64,
 ) -> anyhow::Result<()> {
-    match value(&mut desk.dictionary, &mut desk.memory, board, code) {
-        Ok(node) => tell_node(rt, &desk.dictionary, name, node)?,
+    match value(dictionary, board, code) {
+        Ok(node) => match dictionary.outcome(node) {
+            Ok(outcome) => println!(rt; "{name}: node {node}, outcome {}", outcome.letter())?,
+            Err(fault) => println!(rt; "{name}: node {node}, refused with {}", fault.number())?,
+        },
         Err(fault) => println!(rt; "{name}: refused with {}", fault.number())?,
     }
     Ok(())
 }
 
-fn tell_node<S: Store>(
-    rt: &HostRuntime,
-    dictionary: &Dictionary<S>,
-    name: &str,
-    node: u16,
-) -> anyhow::Result<()> {
-    match dictionary.outcome(node) {
-        Ok(outcome) => println!(rt; "{name}: node {node}, outcome {}", outcome.letter())?,
-        Err(fault) => println!(rt; "{name}: node {node}, refused with {}", fault.number())?,
-    }
-    let mut buffer = [0; 64];
-    if let Ok(length) = dictionary.print(node, &mut buffer) {
-        if let Some(text) = buffer.get(0..length) {
-            println!(rt; "  {}", std::str::from_utf8(text)?)?;
-        }
-    }
-    Ok(())
-}
-
 // First moves on a strip, and on two cells one above the other.
-fn moves<S: Store>(rt: &HostRuntime, desk: &mut Desk<S>) -> anyhow::Result<()> {
+fn moves<S: Store>(rt: &HostRuntime, dictionary: &mut Dictionary<S>) -> anyhow::Result<()> {
     if let Ok(position) = Position::read(b"T.F") {
         tell_move(
             rt,
-            desk,
+            dictionary,
             "Left on T.F",
             &position.strip,
             Side::Left,
@@ -153,11 +130,11 @@ fn moves<S: Store>(rt: &HostRuntime, desk: &mut Desk<S>) -> anyhow::Result<()> {
         )?;
     }
     if let Ok(column) = Board::new(2, 1) {
-        tell_move(rt, desk, "Left on ./.", &column, Side::Left, 0)?;
-        tell_move(rt, desk, "Right on ./.", &column, Side::Right, 0)?;
+        tell_move(rt, dictionary, "Left on ./.", &column, Side::Left, 0)?;
+        tell_move(rt, dictionary, "Right on ./.", &column, Side::Right, 0)?;
         tell_move(
             rt,
-            desk,
+            dictionary,
             "Right on a code at the limit",
             &column,
             Side::Right,
@@ -169,13 +146,13 @@ fn moves<S: Store>(rt: &HostRuntime, desk: &mut Desk<S>) -> anyhow::Result<()> {
 
 fn tell_move<S: Store, R: Ruleset>(
     rt: &HostRuntime,
-    desk: &mut Desk<S>,
+    dictionary: &mut Dictionary<S>,
     name: &str,
     board: &R,
     side: Side,
     code: u64,
 ) -> anyhow::Result<()> {
-    match first_move(&mut desk.dictionary, &mut desk.memory, board, side, code) {
+    match first_move(dictionary, board, side, code) {
         Ok(Some(index)) => println!(rt; "{name}: wins with move {index}")?,
         Ok(None) => println!(rt; "{name}: no move wins")?,
         Err(fault) => println!(rt; "{name}: refused with {}", fault.number())?,

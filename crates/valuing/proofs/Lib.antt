@@ -1,4 +1,5 @@
 pub mod Told
-pub mod Remembering
+pub mod Noted
 pub mod Steps
 pub mod Trying
+pub mod Earliest

@@ -27,7 +27,7 @@ use Rattle.valuing.specs.declared.fault.ValueFault.TheVariants.{Illegal, Positio
 use Rattle.valuing.specs.Answers.{answer_at, refusal}
 use Rattle.valuing.specs.Ready.{Ready, Sure}
 use Rattle.valuing.specs.Valued.{Entered}
-use Rattle.valuing.proofs.Remembering.{right_grows, right_noted}
+use Rattle.valuing.proofs.Noted.{right_grows, right_noted}
 use Rattle.valuing.proofs.Told.{Are, are_none, are_more}
 
 -- the successors ms have been valued, and their numbers are those of the set

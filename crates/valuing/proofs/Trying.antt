@@ -1,4 +1,4 @@
--- The steps of a first move: successors are valued in turn, and a winning one is kept.
+-- The steps of a first move: successors are valued in turn, and the latest winning one is kept.
 -- Assumes nothing.
 use Rattle.std.proofs.Common.{◌≡◌, ℕ, suc, ◌+◌, ◌<◌, ◌≤◌, Bool, true, false, not, List, [], ◌∷◌, ◌++◌, length, get_or, take, drop, Some, None, Err, Option, Result, sym, refl, ap, ◌∙◌, subst, arith, below_more, MatchOption}
 use Rattle.std.specs.List.{slice_get, AllByRecursion as All}
@@ -27,7 +27,7 @@ use Rattle.calls.proofs.Moving.{move_stops, move_told, same_winner}
 use Rattle.valuing.specs.declared.fault.ValueFault.{ValueFault}
 use Rattle.valuing.specs.declared.fault.ValueFault.TheVariants.{Illegal, Position}
 use Rattle.valuing.specs.Answers.{answer_at, refusal}
-use Rattle.valuing.specs.Moved.{Earliest, Moved, earlier_of, won_by}
+use Rattle.valuing.specs.Moved.{Moved, won_by}
 use Rattle.valuing.specs.Valued.{Entered}
 use Rattle.valuing.proofs.Steps.{not_plain, number_in, split}
 
@@ -77,7 +77,7 @@ node_wins R s {n = n} {m = m} {b = b} x = sym (turned s (node b n)) ∙ ap not (
 
 -- what is known of a winning move after i turns
 abbrev pub Best : Rules → Side → List ℕ → ℕ → Option ℕ → Type 0
-Best R s ms i w = MatchOption w ((k : ℕ) → k < i → mover_wins R s (get_or ms k 0) ≡ false) (λ k. (k < length ms) × (mover_wins R s (get_or ms k 0) ≡ true) × ((j : ℕ) → j < k → mover_wins R s (get_or ms j 0) ≡ false))
+Best R s ms i w = MatchOption w ((k : ℕ) → k < i → mover_wins R s (get_or ms k 0) ≡ false) (λ k. (k < length ms) × (mover_wins R s (get_or ms k 0) ≡ true))
 
 pub record Tried (R : Rules) (s : Side) (c : ℕ) (a : Rows) (ms : List ℕ) (i : ℕ) (w : Option ℕ) (b : Rows) : Type 0 where
   pub numbers : List ℕ
@@ -91,10 +91,9 @@ pub record Trying (R : Rules) (s : Side) (ms : List ℕ) (i : ℕ) (w : Option �
   pub kept : ok₀ → ok
   pub so_far : ok₀ → Tried R s c₀ a ms i w b
 
-best_more : (R : Rules) (s : Side) (ms : List ℕ) (i : ℕ) (w : Option ℕ) (r : Bool) → i < length ms → r ≡ mover_wins R s (get_or ms i 0) → Best R s ms i w → Best R s ms (i + 1) (earlier_of w i r)
-best_more R s ms i (Some k) r l e b = b
-best_more R s ms i None true l e b = (l, sym e, b)
-best_more R s ms i None false l e b = below_more _ _ b (sym e)
+best_loses : (R : Rules) (s : Side) (ms : List ℕ) (i : ℕ) (w : Option ℕ) → Best R s ms i w → mover_wins R s (get_or ms i 0) ≡ false → Best R s ms (i + 1) w
+best_loses R s ms i None b e = below_more _ _ b e
+best_loses R s ms i (Some k) b e = b
 
 all_from : (P : ℕ → Type 0) (ms : List ℕ) → ((k : ℕ) → k < length ms → P (get_or ms k 0)) → All P ms
 all_from P [] h = tt
@@ -104,19 +103,11 @@ winning_at : (R : Rules) (s : Side) (code i : ℕ) (w : Option ℕ) → length (
 winning_at R s code i None h b = Winning.nowhere (all_from (λ m. mover_wins R s m ≡ false) (R.moves s code) (λ k l. b k (omega arith)))
 winning_at R s code i (Some k) h b = Winning.index k b.0 b.1
 
-earliest_at : (R : Rules) (s : Side) (code i : ℕ) (w : Option ℕ) → Best R s (R.moves s code) i w → Earliest R s code (told w)
-earliest_at R s code i None b = tt
-earliest_at R s code i (Some k) b = b.2
-
-pub no_earliest : (R : Rules) (s : Side) (code : ℕ) (f : ValueFault) → Earliest R s code (refusal f)
-no_earliest R s code Illegal = tt
-no_earliest R s code (Position z f) = tt
-
 module _ (R : Rules) (l : Lawful R) (s : Side) where
-  pub tries : (ms : List ℕ) (c : ℕ) (a : Rows) (ok₀ ok : Type 0) → (ok₀ → ok) → Trying R s ms 0 None c c a a ok₀ ok
-  tries ms c a ok₀ ok k = record { room = refl; kept = k; so_far = λ h. record { numbers = []; entries = []; holds = valuing_none R l c a; best = λ k z. absurd (omega arith) } }
+  pub tries : (ms : List ℕ) (c : ℕ) (a : Rows) (ok : Type 0) → Trying R s ms 0 None c c a a ok ok
+  tries ms c a ok = record { room = refl; kept = λ h. h; so_far = λ h. record { numbers = []; entries = []; holds = valuing_none R l c a; best = λ k z. absurd (omega arith) } }
 
-  -- one more turn, whose move wins or not; r says which
+  -- one more turn, whose move wins or not
   module _ (ms : List ℕ) (i m n : ℕ) (w : Option ℕ) (c₀ c c' : ℕ) (a b d : Rows) (ok₀ ok ok' : Type 0) (t : Trying R s ms i w c₀ c a b ok₀ ok) (at : Some m ≡ slice_get ms i) (ce : c' ≡ c) (keeps : ok → ok')
       (x : ok → Entered R c b m (told n) d) (r : Bool) (tells : ok' → n < length d → r ≡ as_good s (node d n) 𝟎) where
     entered : ok₀ → Entered R c₀ b m (told n) d
@@ -125,8 +116,8 @@ module _ (R : Rules) (l : Lawful R) (s : Side) where
     is_won : ok₀ → r ≡ mover_wins R s (get_or ms i 0)
     is_won h = tells (keeps (t.kept h)) (number_in (entered h)) ∙ node_wins R s (entered h) ∙ ap (mover_wins R s) (sym (nth_some ms i m at).1)
 
-    pub one_tried : Trying R s ms (i + 1) (earlier_of w i r) c₀ c' a d ok₀ ok'
-    one_tried = record {
+    next : (v : Option ℕ) → (ok₀ → Best R s ms (i + 1) v) → Trying R s ms (i + 1) v c₀ c' a d ok₀ ok'
+    next v best = record {
       room = ce ∙ t.room;
       kept = λ h. keeps (t.kept h);
       so_far = λ h.
@@ -135,9 +126,15 @@ module _ (R : Rules) (l : Lawful R) (s : Side) where
             numbers = (t.so_far h).numbers ++ n ∷ [];
             entries = (entered h).entries ++ (t.so_far h).entries;
             holds = rw (take_more ms i 0 k, e) (valuing_more R l c₀ (take i ms) m (t.so_far h).holds (entered h).holds);
-            best = best_more R s ms i w r k (is_won h) (t.so_far h).best;
+            best = best h;
           };
     }
+
+    pub one_wins : r ≡ true → Trying R s ms (i + 1) (Some i) c₀ c' a d ok₀ ok'
+    one_wins e = next (Some i) (λ h. ((nth_some ms i m at).0, sym (is_won h) ∙ e))
+
+    pub one_loses : r ≡ false → Trying R s ms (i + 1) w c₀ c' a d ok₀ ok'
+    one_loses e = next w (λ h. best_loses R s ms i w (t.so_far h).best (sym (is_won h) ∙ e))
 
   module _ (code : ℕ) (legal : R.legal code ≡ true) where
     stops : (f : ValueFault) (i m : ℕ) (c : ℕ) (a b d : Rows) (w : Option ℕ) → Some m ≡ slice_get (R.moves s code) i → Tried R s c a (R.moves s code) i w b → Entered R c b m (refusal f) d → Moved R c a s code (refusal f) d
@@ -157,6 +154,3 @@ module _ (R : Rules) (l : Lawful R) (s : Side) where
         let v = t.so_far h in
         let all : Valuing R c₀ a (R.moves s code) v.numbers b v.entries = rw (take_all i (R.moves s code) k) at v.holds in
         record { entries = v.entries; holds = move_told R l c₀ s code legal w all (winning_at R s code i w k v.best) }
-
-  pub tried_earliest : (code i : ℕ) (w : Option ℕ) (c₀ c : ℕ) (a b : Rows) (ok₀ ok : Type 0) → Trying R s (R.moves s code) i w c₀ c a b ok₀ ok → ok₀ → Earliest R s code (told w)
-  tried_earliest code i w c₀ c a b ok₀ ok t h = earliest_at R s code i w (t.so_far h).best

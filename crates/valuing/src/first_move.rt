@@ -5,14 +5,13 @@ ghost use Rattle.games.specs.Tests.{as_good};
 ghost use Rattle.calls.specs.Rows.{node};
 ghost use Rattle.dictionary.specs.Kept.{Kept};
 ghost use Rattle.valuing.specs.Answers.{answer_at};
-ghost use Rattle.valuing.specs.Moved.{Earliest, Moved, earlier_of, won_by};
+ghost use Rattle.valuing.specs.Moved.{Moved, won_by};
 
 use crate::fault::ValueFault;
 use crate::value::enter;
 use dictionary::dictionary::Dictionary;
 use games::outcome::Outcome;
 use games::side::Side;
-use memory::memory::Memory;
 use rulesets::ruleset::Ruleset;
 use stores::store::Store;
 
@@ -31,7 +30,7 @@ fn is_won(side: Side, outcome: Outcome) -> bool
 }
 
 // Whether the side, moving second, wins the game of a node.
-fn wins<S: Store>(dictionary: &Dictionary<S>, side: Side, number: u16) -> bool
+pub(crate) fn wins<S: Store>(dictionary: &Dictionary<S>, side: Side, number: u16) -> bool
     ensures { Kept (S.Store.rows dictionary.now.store) dictionary.now.tables → number < length (S.Store.rows dictionary.now.store) → result ≡ as_good side (node (S.Store.rows dictionary.now.store) number) 𝟎 }
 {
     match dictionary.outcome(number) {
@@ -40,39 +39,27 @@ fn wins<S: Store>(dictionary: &Dictionary<S>, side: Side, number: u16) -> bool
     }
 }
 
-// The move found before, or else this one if it wins.
-fn earlier(found: Option<usize>, index: usize, wins: bool) -> Option<usize>
-    ensures { result ≡ earlier_of found index wins }
-{
-    match (found, wins) {
-        (None, true) => Some(index),
-        _ => found,
-    }
-}
-
-// The index of the earliest first move that wins for the side, if there is one. All of the side's successors are valued.
-// The memory is lent for the call, and forgets what it held.
+// The index of a first move that wins for the side, if there is one. All of the side's successors are valued.
 pub fn first_move<S: Store, R: Ruleset>(
     dictionary: &mut Dictionary<S>,
-    memory: &mut Memory,
     board: &R,
     side: Side,
     code: u64,
 ) -> Result<Option<usize>, ValueFault>
     ensures moved { Kept (S.Store.rows dictionary.old.store) dictionary.old.tables → Moved (R.Ruleset.rules board.now) (S.Store.room dictionary.old.store) (S.Store.rows dictionary.old.store) side code (answer_at result) (S.Store.rows dictionary.new.store) }
-    ensures earliest { Kept (S.Store.rows dictionary.old.store) dictionary.old.tables → Earliest (R.Ruleset.rules board.now) side code (answer_at result) }
     ensures kept { Kept (S.Store.rows dictionary.old.store) dictionary.old.tables → Kept (S.Store.rows dictionary.new.store) dictionary.new.tables }
     ensures room { S.Store.room dictionary.new.store ≡ S.Store.room dictionary.old.store }
 {
     if !board.is_legal(code) {
         return Err(ValueFault::Illegal);
     }
-    memory.forget(board.limit());
     let mut winning = None;
     for index in 0..board.count(side, code) {
         if let Some(next) = board.successor(side, code, index) {
-            let number = enter(dictionary, memory, board, next)?;
-            winning = earlier(winning, index, wins(dictionary, side, number));
+            let number = enter(dictionary, board, next)?;
+            if wins(dictionary, side, number) {
+                winning = Some(index);
+            }
         }
     }
     Ok(winning)

@@ -2,7 +2,7 @@
 use Rattle.std.proofs.Common.{◌≡◌, ℕ, false}
 use Rattle.games.specs.declared.side.Side.TheVariants.{Left, Right}
 use Rattle.nodesets.specs.Pairs.{by}
-use Rattle.valuing.specs.Ready.{Ready}
+use Rattle.dictionary.specs.Kept.{Kept}
 use Rattle.valuing.proofs.Steps.{Turn}
 use Rattle.valuing.proofs.value.+enter.Given as goal
 
@@ -15,7 +15,7 @@ invariant-loop-i g l =
     let d₀ = l.initial.dictionary in
     let d = l.dictionary in
     Turn R (R.moves Left l.code) l.i (by l.moves Left) (g.S.Store.room d₀.store) (g.S.Store.room d.store) (g.S.Store.rows d₀.store) (g.S.Store.rows d.store)
-    (Ready R (g.S.Store.rows d₀.store) d₀.tables l.initial.memory) (Ready R (g.S.Store.rows d.store) d.tables l.memory)
+    (Kept (g.S.Store.rows d₀.store) d₀.tables) (Kept (g.S.Store.rows d.store) d.tables)
     × ((k : ℕ) → by l.moves Right k ≡ false)
 
 abbrev pub invariant-loop-j : goal.invariant-loop-j
@@ -24,5 +24,5 @@ invariant-loop-j g l =
     let d₀ = l.initial.dictionary in
     let d = l.dictionary in
     Turn R (R.moves Right l.code) l.j (by l.moves Right) (g.S.Store.room d₀.store) (g.S.Store.room d.store) (g.S.Store.rows d₀.store) (g.S.Store.rows d.store)
-    (Ready R (g.S.Store.rows d₀.store) d₀.tables l.initial.memory) (Ready R (g.S.Store.rows d.store) d.tables l.memory)
+    (Kept (g.S.Store.rows d₀.store) d₀.tables) (Kept (g.S.Store.rows d.store) d.tables)
     × ((k : ℕ) → by l.moves Left k ≡ by l.initial.moves Left k)
