@@ -1,6 +1,6 @@
 -- A store has no row with more than 16 numbers on a side.
 -- Assumes nothing.
-use Rattle.std.proofs.Common.{◌≡◌, ℕ, ◌≤◌, true, leb, List, length, Some, None, refl, ap, subst, arith}
+use Rattle.std.proofs.Common.{◌≡◌, ℕ, ◌≤◌, true, leb, List, length, Some, None, subst, arith}
 use Rattle.std.proofs.lemmas.Bool.{le-leb}
 use Rattle.games.specs.declared.side.Side.TheVariants.{Left, Right}
 use Rattle.games.specs.Numbered.{Lists, list_of}

@@ -1,6 +1,6 @@
 -- The rows of a dictionary are sound.
 -- Assumes nothing.
-use Rattle.std.proofs.Common.{◌≡◌, ℕ, ◌<◌, ◌≤◌, length, get_or, sym, subst, subst₂}
+use Rattle.std.proofs.Common.{ℕ, ◌≤◌, length, get_or, sym, subst, subst₂}
 use Rattle.games.specs.declared.side.Side.{Side}
 use Rattle.games.specs.Canon.{Canonical}
 use Rattle.games.specs.Numbered.{list_of}

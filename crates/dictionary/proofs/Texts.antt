@@ -1,7 +1,7 @@
 -- The text of a node, of its options, and of the first options of a list.
 -- Assumes nothing.
-use Rattle.std.proofs.Common.{◌≡◌, ℕ, zero, suc, ◌+◌, ◌-◌, ◌<◌, ◌≤◌, min, ◌⊎◌, List, [], ◌∷◌, ◌++◌, map, length, get_or, take, drop, Some, None, Option, sym, refl, ap, ◌∙◌, subst, ap₂, inl, inr, ⊎_elim, arith}
-use Rattle.std.specs.List.{AllByRecursion as All, slice_get}
+use Rattle.std.proofs.Common.{◌≡◌, ℕ, zero, suc, ◌+◌, ◌<◌, ◌≤◌, min, ◌⊎◌, List, [], ◌∷◌, ◌++◌, map, length, get_or, take, drop, Some, None, Option, sym, refl, ap, ◌∙◌, ⊎_elim, arith}
+use Rattle.std.specs.List.{slice_get}
 use Rattle.std.proofs.ByRecursion.{All-from_get_or}
 use Rattle.std.proofs.lemmas.List.{append-nil, append_assoc, get_or_past, length-append, map-append, take_all, take-append-drop, take_more}
 use Rattle.std.proofs.lemmas.Bool.{cases_lt}
@@ -10,7 +10,7 @@ use Rattle.games.specs.declared.side.Side.TheVariants.{Left, Right}
 use Rattle.std.specs.Option.{SomeIff}
 use Rattle.games.specs.Form.{Form, Forms, ∅, ◌&◌, ◌⧺◌}
 use Rattle.games.specs.Numbered.{Lists, list_of, each, form_by}
-use Rattle.games.specs.Text.{Mark, byte, comma, open-mark, close-mark, bar, text, texts, more, bytes}
+use Rattle.games.specs.Text.{byte, comma, close-mark, bar, text, texts, more, bytes}
 use Rattle.rulesets.proofs.Positions.{nth_some}
 use Rattle.stores.specs.Rows.{Lawful, row_at}
 use Rattle.calls.specs.Rows.{Rows, Below, node}

@@ -1,6 +1,6 @@
 -- A memory stays right: while it holds nothing, while rows are added, and while what is noted is what was told.
 -- Assumes nothing.
-use Rattle.std.proofs.Common.{◌≡◌, ℕ, List, ◌++◌, sym, subst, inl, inr}
+use Rattle.std.proofs.Common.{ℕ, sym, subst, inl, inr}
 use Rattle.rulesets.specs.Rules.{Rules, game}
 use Rattle.sealing.specs.declared.tables.Tables.{Tables}
 use Rattle.memory.specs.declared.memory.Memory.{Memory}

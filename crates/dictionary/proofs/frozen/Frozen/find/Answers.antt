@@ -1,6 +1,5 @@
 -- A list of more than 16 numbers is in no row.
 use Rattle.std.proofs.Common.{◌≡◌, None, ◌∙◌, rules}
-use Rattle.stores.specs.Rows.{row_of_lists}
 use Rattle.dictionary.proofs.Found.{none_so_long}
 use Rattle.dictionary.proofs.frozen.Frozen.find.Goals as goal
 

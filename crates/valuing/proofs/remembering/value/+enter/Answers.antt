@@ -1,5 +1,5 @@
 -- Each loop values one more successor, the numbers told are sealed, and what is told is noted.
-use Rattle.std.proofs.Common.{◌≡◌, ◌+◌, ◌<◌, Err, sym, refl, ap, ◌∙◌, subst, subst₂, arith, rules}
+use Rattle.std.proofs.Common.{◌≡◌, ◌+◌, ◌<◌, Err, sym, refl, ap, ◌∙◌, subst₂, arith, rules}
 use Rattle.games.specs.declared.side.Side.TheVariants.{Left, Right}
 use Rattle.nodesets.specs.Pairs.{by}
 use Rattle.rulesets.proofs.Positions.{nth_none, successor_falls}
