@@ -1,7 +1,7 @@
 -- The list of the numbers that pass a test.
 -- Assumes nothing.
 use Rattle.std.proofs.Common.{◌≡◌, ℕ, zero, suc, ◌<◌, ◌≤◌, Bool, true, false, cond, ◌≢◌, List, [], ◌∷◌, map, length, Some, filter, sym, refl, ap, ◌∙◌, subst, inl, inr, add-one, arith}
-use Rattle.std.specs.List.{range_with_len, slice_get, AllByRecursion as All}
+use Rattle.std.specs.List.{range_with_len, slice_get, AllByRecursion}
 use Rattle.std.specs.Option.{option_map}
 use Rattle.std.proofs.ByRecursion.{All-map, All-weaker}
 use Rattle.std.proofs.lemmas.List.{length-map}
@@ -57,10 +57,10 @@ places_more (suc m) (suc n) p h f =
 
 -- ---- what is in the list, and how long it is
 
-pub all_places : (n : ℕ) (p : ℕ → Bool) → All (λ i. (i < n) × (p i ≡ true)) (places n p)
+pub all_places : (n : ℕ) (p : ℕ → Bool) → AllByRecursion (λ i. (i < n) × (p i ≡ true)) (places n p)
 all_places zero p = rw (places_none p) tt
 all_places (suc n) p =
-    let rest : All (λ i. (i < suc n) × (p i ≡ true)) (map suc (places n (λ j. p (suc j)))) =
+    let rest : AllByRecursion (λ i. (i < suc n) × (p i ≡ true)) (map suc (places n (λ j. p (suc j)))) =
     All-map (λ i. (i < suc n) × (p i ≡ true)) suc (places n (λ j. p (suc j))) (All-weaker (λ i. (i < n) × (p (suc i) ≡ true)) (λ i. (suc i < suc n) × (p (suc i) ≡ true)) (λ i h. (let k : i < n = h.0 in omega arith, h.1)) (places n (λ j. p (suc j))) (all_places n (λ j. p (suc j)))) in
     elim (cases_Bool (p 0)) [
       | inl e ↦ rw (places_first n p e) ((omega arith, e), rest)
@@ -103,7 +103,7 @@ nth_map f (x ∷ xs) zero = refl
 nth_map f (x ∷ xs) (suc i) = nth_map f xs i
 
 -- what holds of every member holds of one that is read
-pub nth_all : {X : Type 0} (P : X → Type 0) (xs : List X) (i : ℕ) (x : X) → All P xs → slice_get xs i ≡ Some x → P x
+pub nth_all : {X : Type 0} (P : X → Type 0) (xs : List X) (i : ℕ) (x : X) → AllByRecursion P xs → slice_get xs i ≡ Some x → P x
 nth_all P [] i x a e = absurd (let z : ◌≡◌ {A = ℕ} 0 1 = cc in omega arith)
 nth_all P (y ∷ ys) zero x a e = let q : y ≡ x = cc in subst P q a.0
 nth_all P (y ∷ ys) (suc i) x a e = nth_all P ys i x a.1 e

@@ -2,7 +2,7 @@
 -- Assumes nothing.
 use Rattle.std.proofs.Common.{◌≡◌, ℕ, ◌<◌, ◌≤◌, ◌⊎◌, List, [], ◌∷◌, ◌++◌, length, get_or, None, Option, refl, ◌∙◌, inl, inr, arith}
 use native.Mathlib.Decide.{dec_lt}
-use Rattle.std.specs.List.{AllByRecursion as All}
+use Rattle.std.specs.List.{AllByRecursion}
 use Rattle.std.proofs.lemmas.List.{length-append}
 use Rattle.games.specs.Form.{Form, Forms, form, ∅, ◌&◌}
 use Rattle.games.specs.Numbered.{each}
@@ -133,7 +133,7 @@ either : {A B C : Type 0} → A ⊎ B → (A → C) → (B → C) → C
 either (inl a) f g = f a
 either (inr b) f g = g b
 
-pub all_less : (n k : ℕ) → n ≤ k → (ns : List ℕ) → All (λ m. m < n) ns → All (λ m. m < k) ns
+pub all_less : (n k : ℕ) → n ≤ k → (ns : List ℕ) → AllByRecursion (λ m. m < n) ns → AllByRecursion (λ m. m < k) ns
 all_less n k l [] a = tt
 all_less n k l (m ∷ ns) a = let h = a.0 in (omega arith, all_less n k l ns a.1)
 
@@ -159,7 +159,7 @@ mutual
       part (record { at = n; stands = record { inside = k; as_written = e } }) m
       (all_parts_listed ls rows s r.left (all_less n _ (omega arith) r.left b.on_left) l x) (all_parts_listed rs rows s r.right (all_less n _ (omega arith) r.right b.on_right) q x)
 
-  all_parts_listed : (gs : Forms) (rows : Rows) → Sound rows → (ns : List ℕ) → All (λ m. m < length rows) ns → each (node rows) ns ≡ gs → (x : Form) → x among parts_of_all gs → Listed rows x
+  all_parts_listed : (gs : Forms) (rows : Rows) → Sound rows → (ns : List ℕ) → AllByRecursion (λ m. m < length rows) ns → each (node rows) ns ≡ gs → (x : Form) → x among parts_of_all gs → Listed rows x
   all_parts_listed ∅ rows s ns k e x m = elim m [ ]
   all_parts_listed (g & gs) rows s [] k e x m = let z : ◌≡◌ {A = ℕ} 0 1 = cc in absurd (omega arith)
   all_parts_listed (g & gs) rows s (n ∷ ns) k e x m =

@@ -1,7 +1,7 @@
 -- The options of a canonical form are nodes, if it equals a form whose options equal nodes.
 -- Assumes nothing.
 use Rattle.std.proofs.Common.{◌≡◌, ℕ, zero, suc, ◌<◌, ◌≤◌, ◌⊎◌, List, [], ◌∷◌, length, get_or, sym, refl, ◌∙◌, subst, ap₂, inl, inr, arith}
-use Rattle.std.specs.List.{AllByRecursion as All}
+use Rattle.std.specs.List.{AllByRecursion}
 use Rattle.games.specs.declared.side.Side.{Side}
 use Rattle.games.specs.declared.side.Side.TheVariants.{Left, Right}
 use Rattle.games.specs.Form.{Form, Forms, ∅, ◌&◌, ◌∈◌, here, there, size}
@@ -26,7 +26,7 @@ pub record Is (rows : Rows) (x : Form) : Type 0 where
   pub inside : at < length rows
   pub is : node rows at ≡ x
 
-member : (rows : Rows) (n : ℕ) (ns : List ℕ) (x : Form) → n < length rows → All (λ m. m < n) ns → x ∈ each (node rows) ns → Is rows x
+member : (rows : Rows) (n : ℕ) (ns : List ℕ) (x : Form) → n < length rows → AllByRecursion (λ m. m < n) ns → x ∈ each (node rows) ns → Is rows x
 member rows n [] x k a i = elim i [ ]
 member rows n (m ∷ ns) x k a here = record { at = m; inside = let l = a.0 in omega arith; is = refl }
 member rows n (m ∷ ns) x k a (there i) = member rows n ns x k a.1 i
@@ -85,7 +85,7 @@ module _ (rows : Rows) (sound : Sound rows) where
 -- the numbers of a list of nodes
 pub record Numbers (rows : Rows) (xs : Forms) : Type 0 where
   pub list : List ℕ
-  pub below : All (λ m. m < length rows) list
+  pub below : AllByRecursion (λ m. m < length rows) list
   pub stand_for : each (node rows) list ≡ xs
 
 pub numbers : (rows : Rows) (xs : Forms) → ((x : Form) → x ∈ xs → Is rows x) → Numbers rows xs

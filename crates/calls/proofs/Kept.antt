@@ -2,7 +2,7 @@
 -- Assumes nothing.
 use Rattle.std.proofs.Common.{◌≡◌, ℕ, ◌<◌, Bool, true, false, cond, T, eqb, ◌⊎◌, List, [], ◌∷◌, ◌++◌, length, sym, refl, ap, ◌∙◌, inl, inr, arith, eqb→eq}
 use lib.Dec.{eqb_refl}
-use Rattle.std.specs.List.{AllByRecursion as All}
+use Rattle.std.specs.List.{AllByRecursion}
 use Rattle.games.specs.declared.side.Side.{Side}
 use Rattle.games.specs.declared.side.Side.TheVariants.{Left, Right}
 use Rattle.games.specs.Form.{Form, here, there}
@@ -58,7 +58,7 @@ kept_holding : {p : Past} (i : ℕ) (d : Lists) (slips : ℕ) → Kept p → Kep
 kept_holding i d slips k = record { sound = k.sound; correct = k.correct; covered = k.covered; texts = k.texts }
 
 -- a draft: the games of the numbers equal their nodes, so the draft's game equals the form that is sealed
-each_alike : (k : ℕ) (f h : ℕ → Form) → ((n : ℕ) → n < k → h n ≈ f n) → (ns : List ℕ) → All (λ n. n < k) ns → Alike (each f ns) (each h ns)
+each_alike : (k : ℕ) (f h : ℕ → Form) → ((n : ℕ) → n < k → h n ≈ f n) → (ns : List ℕ) → AllByRecursion (λ n. n < k) ns → Alike (each f ns) (each h ns)
 each_alike k f h e [] a x m = elim m [ ]
 each_alike k f h e (n ∷ ns) a x here = (h n, here, e n a.0)
 each_alike k f h e (n ∷ ns) a x (there m) = let (y, i, v) = each_alike k f h e ns a.1 x m in (y, there i, v)

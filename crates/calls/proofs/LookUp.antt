@@ -2,7 +2,7 @@
 -- Assumes nothing.
 use Rattle.std.proofs.Common.{◌≡◌, ℕ, zero, suc, ◌<◌, ◌≤◌, ◌⊎◌, List, [], ◌∷◌, ◌++◌, length, get_or, sym, refl, ap, ◌∙◌, subst, ap₂, inl, inr, arith}
 use native.Mathlib.Decide.{dec_lt}
-use Rattle.std.specs.List.{AllByRecursion as All}
+use Rattle.std.specs.List.{AllByRecursion}
 use Rattle.games.specs.Form.{Form}
 use Rattle.games.specs.Text.{bytes}
 use Rattle.games.proofs.Text.{bytes_injective}
@@ -42,19 +42,19 @@ pub record Missing (rows : Rows) (gs : List Form) : Type 0 where
   pub before : List Form
   pub behind : List Form
   pub split : gs ≡ before ++ it ∷ behind
-  pub others : All (Listed rows) before
+  pub others : AllByRecursion (Listed rows) before
   pub not_listed : ¬ Listed rows it
 
-walk : (rows : Rows) (gs : List Form) → All (Listed rows) gs ⊎ Missing rows gs
+walk : (rows : Rows) (gs : List Form) → AllByRecursion (Listed rows) gs ⊎ Missing rows gs
 walk rows [] = inl tt
 walk rows (g ∷ gs) = go (listed_dec rows g) (walk rows gs)
   where
-    go : Dec (Listed rows g) → All (Listed rows) gs ⊎ Missing rows gs → All (Listed rows) (g ∷ gs) ⊎ Missing rows (g ∷ gs)
+    go : Dec (Listed rows g) → AllByRecursion (Listed rows) gs ⊎ Missing rows gs → AllByRecursion (Listed rows) (g ∷ gs) ⊎ Missing rows (g ∷ gs)
     go (no f) r = inr (record { it = g; before = []; behind = gs; split = refl; others = tt; not_listed = f })
     go (yes x) (inl a) = inl (x, a)
     go (yes x) (inr m) = inr (record { it = m.it; before = g ∷ m.before; behind = m.behind; split = ap (λ l. g ∷ l) m.split; others = (x, m.others); not_listed = m.not_listed })
 
-all_among : {rows : Rows} (gs : List Form) {x : Form} → All (Listed rows) gs → x among gs → Listed rows x
+all_among : {rows : Rows} (gs : List Form) {x : Form} → AllByRecursion (Listed rows) gs → x among gs → Listed rows x
 all_among [] a m = elim m [ ]
 all_among (g ∷ gs) a first = a.0
 all_among (g ∷ gs) a (later m) = all_among gs a.1 m
@@ -62,7 +62,7 @@ all_among (g ∷ gs) a (later m) = all_among gs a.1 m
 last : (g : Form) → g among parts g
 last g = let (front, e) = parts_end g in rw e (among_back front (g ∷ []) first)
 
-same_place : {rows : Rows} (a b c d : List Form) (g h : Form) → a ++ g ∷ b ≡ c ++ h ∷ d → All (Listed rows) a → All (Listed rows) c → ¬ Listed rows g → ¬ Listed rows h → length a ≡ length c
+same_place : {rows : Rows} (a b c d : List Form) (g h : Form) → a ++ g ∷ b ≡ c ++ h ∷ d → AllByRecursion (Listed rows) a → AllByRecursion (Listed rows) c → ¬ Listed rows g → ¬ Listed rows h → length a ≡ length c
 same_place [] b [] d g h e x y n m = refl
 same_place {rows} [] b (k ∷ c) d g h e x y n m = let same : k ≡ g = cc in absurd (n (subst (Listed rows) same y.0))
 same_place {rows} (k ∷ a) b [] d g h e x y n m = let same : k ≡ h = cc in absurd (m (subst (Listed rows) same x.0))
@@ -95,7 +95,7 @@ looking_up_has_one_outcome rows t s = go (verdict t)
     one : (a : Answer ℕ) → LooksUp rows t a → ExactlyOne (λ (a : Answer ℕ). LooksUp rows t a)
     one a x = record { it = a; has = x; only = λ b y. looks_one s y x }
 
-    found : (g : Form) → Written t g → All (Listed rows) (parts g) ⊎ Missing rows (parts g) → ExactlyOne (λ (a : Answer ℕ). LooksUp rows t a)
+    found : (g : Form) → Written t g → AllByRecursion (Listed rows) (parts g) ⊎ Missing rows (parts g) → ExactlyOne (λ (a : Answer ℕ). LooksUp rows t a)
     found g w (inl a) = let y = all_among (parts g) a (last g) in one (told y.at) (LooksUp.listed g y.at w y.stands)
     found g w (inr m) = one _ (LooksUp.missing g m.it m.before m.behind w m.split m.others m.not_listed)
 

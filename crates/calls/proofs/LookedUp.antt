@@ -1,7 +1,7 @@
 -- What a look-up's proof needs: the forms of the brackets closed so far are nodes', and each open bracket has the numbers of its options, as written.
 -- Assumes nothing.
 use Rattle.std.proofs.Common.{◌≡◌, ℕ, ◌<◌, List, [], ◌∷◌, ◌++◌, length, get_or, sym, refl, ap, ◌∙◌, subst, ap₂}
-use Rattle.std.specs.List.{AllByRecursion as All}
+use Rattle.std.specs.List.{AllByRecursion}
 use Rattle.games.specs.Form.{Form, Forms, form, ∅, ◌&◌, ◌⧺◌, lefts, rights}
 use Rattle.games.specs.Numbered.{Lists, each, form_by}
 use Rattle.games.specs.Text.{Mark, open-mark, bar, close-mark, comma, text}
@@ -18,13 +18,13 @@ use Rattle.calls.proofs.Bracketed.{closed_parts, brackets, outside, closing, clo
 
 -- the numbers are nodes', and their forms are the given ones
 pub record Names (rows : Rows) (ns : List ℕ) (gs : Forms) : Type 0 where
-  pub below : All (λ m. m < length rows) ns
+  pub below : AllByRecursion (λ m. m < length rows) ns
   pub stand_for : each (node rows) ns ≡ gs
 
 names_none : (rows : Rows) → Names rows [] ∅
 names_none rows = record { below = tt; stand_for = refl }
 
-all_push : {A : Type 0} (P : A → Type 0) (xs : List A) (x : A) → All P xs → P x → All P (xs ++ x ∷ [])
+all_push : {A : Type 0} (P : A → Type 0) (xs : List A) (x : A) → AllByRecursion P xs → P x → AllByRecursion P (xs ++ x ∷ [])
 all_push P [] x a p = (p, tt)
 all_push P (y ∷ xs) x a p = (a.0, all_push P xs x a.1 p)
 
@@ -36,7 +36,7 @@ names_push rows n g s ns gs x = record {
 
 -- The reader stands at q: the forms closed so far are nodes', and the numbers of the open brackets are kept.
 pub record LookedUp (rows : Rows) (q : State) (frames : List Lists) : Type 0 where
-  pub listed : All (Listed rows) (closed_parts q)
+  pub listed : AllByRecursion (Listed rows) (closed_parts q)
   pub numbers : Frames (Names rows) (brackets q) frames
 
 module _ (rows : Rows) where
@@ -44,7 +44,7 @@ module _ (rows : Rows) where
   look_begins = record { listed = tt; numbers = tt }
 
   moved : (q p : State) (ls ks : List Lists) → closed_parts p ≡ closed_parts q → Frames (Names rows) (brackets p) ks → LookedUp rows q ls → LookedUp rows p ks
-  moved q p ls ks e f x = record { listed = subst (All (Listed rows)) (sym e) x.listed; numbers = f }
+  moved q p ls ks e f x = record { listed = subst (AllByRecursion (Listed rows)) (sym e) x.listed; numbers = f }
 
   pub look_opens : (q : State) (ls : List Lists) → Alive (next q open-mark) → LookedUp rows q ls → LookedUp rows (next q open-mark) (no_numbers ∷ ls)
   look_opens q ls a x = moved q (next q open-mark) ls (no_numbers ∷ ls) (open_same q a) (frames_open (Names rows) (names_none rows) q ls a x.numbers) x
@@ -80,7 +80,7 @@ module _ (rows : Rows) where
     look_closes n k e =
         let s = row_stands n k e in
         record {
-          listed = subst (All (Listed rows)) (sym (close_parts q alive)) (all_push (Listed rows) (closed_parts q) (closing q) x.listed (record { at = n; stands = s }));
+          listed = subst (AllByRecursion (Listed rows)) (sym (close_parts q alive)) (all_push (Listed rows) (closed_parts q) (closing q) x.listed (record { at = n; stands = s }));
           numbers = frames_close (Names rows) n (closing q) (names_push rows n (closing q) s) q l ls refl alive x.numbers;
         }
 

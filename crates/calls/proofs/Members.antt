@@ -1,7 +1,7 @@
 -- Of two lists of numbers that are sealed only the members matter.
 -- Assumes nothing.
 use Rattle.std.proofs.Common.{ℕ, ◌<◌, List, [], ◌∷◌}
-use Rattle.std.specs.List.{AllByRecursion as All}
+use Rattle.std.specs.List.{AllByRecursion}
 use Rattle.games.specs.declared.side.Side.{Side}
 use Rattle.games.specs.declared.side.Side.TheVariants.{Left, Right}
 use Rattle.games.specs.Form.{Form, ◌∈◌, here, there}
@@ -15,12 +15,12 @@ use Rattle.calls.specs.Sealing.{SealsNumbers, unknown, known}
 use Rattle.calls.specs.Laws.{SameMembers, SealingGoesByMembers}
 use Rattle.calls.proofs.Sealing.{seals_≈}
 
-all_among : (P : ℕ → Type 0) (ns : List ℕ) → All P ns → (n : ℕ) → n among ns → P n
+all_among : (P : ℕ → Type 0) (ns : List ℕ) → AllByRecursion P ns → (n : ℕ) → n among ns → P n
 all_among P [] a n i = elim i [ ]
 all_among P (m ∷ ns) a n first = a.0
 all_among P (m ∷ ns) a n (later i) = all_among P ns a.1 n i
 
-among_all : (P : ℕ → Type 0) (ns : List ℕ) → ((n : ℕ) → n among ns → P n) → All P ns
+among_all : (P : ℕ → Type 0) (ns : List ℕ) → ((n : ℕ) → n among ns → P n) → AllByRecursion P ns
 among_all P [] f = tt
 among_all P (n ∷ ns) f = (f n first, among_all P ns (λ m i. f m (later i)))
 

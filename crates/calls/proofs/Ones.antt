@@ -2,7 +2,7 @@
 -- Assumes nothing.
 use Rattle.std.proofs.Common.{◌≡◌, ℕ, suc, ◌<◌, ◌≤◌, Bool, true, false, ◌⊎◌, List, [], ◌∷◌, length, get_or, Some, None, Option, sym, refl, ◌∙◌, subst, ap₂, inl, inr, arith}
 use native.Mathlib.Decide.{dec_lt, dec_le}
-use Rattle.std.specs.List.{AllByRecursion as All}
+use Rattle.std.specs.List.{AllByRecursion}
 use Rattle.games.specs.declared.outcome.Comparison.{Comparison}
 use Rattle.games.specs.declared.outcome.Outcome.{Outcome}
 use Rattle.games.specs.declared.side.Side.{Side}
@@ -37,11 +37,11 @@ use Rattle.calls.proofs.Turns.{parts_all_total, turn_one, enters_total, enters_o
 use Rattle.calls.proofs.Texts.{no_fault, fault_one, Verdict, verdict}
 
 -- whether numbers are below a bound
-all_dec : (k : ℕ) (ns : List ℕ) → Dec (All (λ m. m < k) ns)
+all_dec : (k : ℕ) (ns : List ℕ) → Dec (AllByRecursion (λ m. m < k) ns)
 all_dec k [] = yes tt
 all_dec k (n ∷ ns) = go (dec_lt n k) (all_dec k ns)
   where
-    go : Dec (n < k) → Dec (All (λ m. m < k) ns) → Dec (All (λ m. m < k) (n ∷ ns))
+    go : Dec (n < k) → Dec (AllByRecursion (λ m. m < k) ns) → Dec (AllByRecursion (λ m. m < k) (n ∷ ns))
     go (yes p) (yes q) = yes (p, q)
     go (yes p) (no f) = no (λ h. f h.1)
     go (no f) q = no (λ h. f h.0)
@@ -49,7 +49,7 @@ all_dec k (n ∷ ns) = go (dec_lt n k) (all_dec k ns)
 below_dec : (k : ℕ) (d : Lists) → Dec (Below k d)
 below_dec k d = go (all_dec k d.left) (all_dec k d.right)
   where
-    go : Dec (All (λ m. m < k) d.left) → Dec (All (λ m. m < k) d.right) → Dec (Below k d)
+    go : Dec (AllByRecursion (λ m. m < k) d.left) → Dec (AllByRecursion (λ m. m < k) d.right) → Dec (Below k d)
     go (yes p) (yes q) = yes (record { on_left = p; on_right = q })
     go (yes p) (no f) = no (λ h. f h.on_right)
     go (no f) q = no (λ h. f h.on_left)
@@ -58,7 +58,7 @@ by_form : {c : ℕ} {rows after : Rows} {a : Answer ℕ} {d : Lists} {g : Form} 
 by_form b e (unknown f) = absurd (f b)
 by_form b e (known k s) = seals_≈ e s
 
-equal_below : {rows : Rows} {ns : List ℕ} {gs : Forms} → Equal rows ns gs → All (λ m. m < length rows) ns
+equal_below : {rows : Rows} {ns : List ℕ} {gs : Forms} → Equal rows ns gs → AllByRecursion (λ m. m < length rows) ns
 equal_below none_left = tt
 equal_below (equal_next k e r) = (k, equal_below r)
 
@@ -90,7 +90,7 @@ sealing_goes_by_numbers c rows after a d g l r = (by_form below same, λ s. know
     same = replace_≈ (form_by (node rows) d) g to from
 
 -- the numbers of a row stand for nodes
-named : (rows : Rows) (ns : List ℕ) → All (λ m. m < length rows) ns → (x : Form) → x ∈ each (node rows) ns → Node rows x
+named : (rows : Rows) (ns : List ℕ) → AllByRecursion (λ m. m < length rows) ns → (x : Form) → x ∈ each (node rows) ns → Node rows x
 named rows [] a x m = elim m [ ]
 named rows (n ∷ ns) a x here = record { at = n; inside = a.0; equals = ≈_refl (node rows n) }
 named rows (n ∷ ns) a x (there m) = named rows ns a.1 x m
@@ -204,11 +204,11 @@ putting_has_one_outcome s n d = go (dec_le n 383)
     go (no f) = one (refused 1) d (Puts.too_large (omega arith))
 
 -- first move
-search_list : (p : ℕ → Bool) (ns : List ℕ) → ((i : ℕ) × (i < length ns) × (p (get_or ns i 0) ≡ true)) ⊎ All (λ m. p m ≡ false) ns
+search_list : (p : ℕ → Bool) (ns : List ℕ) → ((i : ℕ) × (i < length ns) × (p (get_or ns i 0) ≡ true)) ⊎ AllByRecursion (λ m. p m ≡ false) ns
 search_list p [] = inr tt
 search_list p (n ∷ ns) = go (p n) refl (search_list p ns)
   where
-    go : (b : Bool) → p n ≡ b → ((i : ℕ) × (i < length ns) × (p (get_or ns i 0) ≡ true)) ⊎ All (λ m. p m ≡ false) ns → ((i : ℕ) × (i < length (n ∷ ns)) × (p (get_or (n ∷ ns) i 0) ≡ true)) ⊎ All (λ m. p m ≡ false) (n ∷ ns)
+    go : (b : Bool) → p n ≡ b → ((i : ℕ) × (i < length ns) × (p (get_or ns i 0) ≡ true)) ⊎ AllByRecursion (λ m. p m ≡ false) ns → ((i : ℕ) × (i < length (n ∷ ns)) × (p (get_or (n ∷ ns) i 0) ≡ true)) ⊎ AllByRecursion (λ m. p m ≡ false) (n ∷ ns)
     go true e r = inl (0, omega arith, e)
     go false e (inl (i, k, t)) = inl (suc i, omega arith, t)
     go false e (inr a) = inr (e, a)

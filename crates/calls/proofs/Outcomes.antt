@@ -2,7 +2,7 @@
 -- Assumes nothing.
 use Rattle.std.proofs.Common.{◌≡◌, ℕ, zero, suc, ◌<◌, ◌≤◌, ◌⊎◌, List, [], ◌∷◌, ◌++◌, length, sym, refl, ap, subst, ap₂, inl, inr, arith}
 use native.Mathlib.Decide.{dec_lt, dec_le}
-use Rattle.std.specs.List.{AllByRecursion as All}
+use Rattle.std.specs.List.{AllByRecursion}
 use Rattle.games.specs.declared.side.Side.{Side}
 use Rattle.games.specs.declared.side.Side.TheVariants.{Left, Right}
 use Rattle.games.specs.Form.{Form, form, lefts, rights, ◌∈◌}
@@ -98,7 +98,7 @@ seals_total c rows g s known = go (look rows g (length rows) (omega arith))
 one_form : {g h k : Form} → CanonicalFormOf g h → CanonicalFormOf g k → h ≡ k
 one_form x y = unique x.is_canonical y.is_canonical (≈_trans x.same_value (≈_sym y.same_value))
 
-same_numbers : (rows : Rows) → Sound rows → (ns ms : List ℕ) → All (λ m. m < length rows) ns → All (λ m. m < length rows) ms → each (node rows) ns ≡ each (node rows) ms → ns ≡ ms
+same_numbers : (rows : Rows) → Sound rows → (ns ms : List ℕ) → AllByRecursion (λ m. m < length rows) ns → AllByRecursion (λ m. m < length rows) ms → each (node rows) ns ≡ each (node rows) ms → ns ≡ ms
 same_numbers rows s [] [] a b e = refl
 same_numbers rows s [] (m ∷ ms) a b e = let z : ◌≡◌ {A = ℕ} 0 1 = cc in absurd (omega arith)
 same_numbers rows s (n ∷ ns) [] a b e = let z : ◌≡◌ {A = ℕ} 0 1 = cc in absurd (omega arith)

@@ -1,7 +1,7 @@
 -- The positions in the order of sealing have the parts of the game for their games.
 -- Assumes nothing.
 use Rattle.std.proofs.Common.{◌≡◌, ℕ, zero, suc, ◌<◌, ◌≤◌, true, List, [], ◌∷◌, ◌++◌, map, sym, refl, ap, ◌∙◌, ap₂, arith}
-use Rattle.std.specs.List.{flat_map, AllByRecursion as All}
+use Rattle.std.specs.List.{flat_map, AllByRecursion}
 use Rattle.std.proofs.lemmas.List.{map-append}
 use Rattle.games.specs.declared.side.Side.{Side}
 use Rattle.games.specs.declared.side.Side.TheVariants.{Left, Right}
@@ -11,17 +11,17 @@ use Rattle.rulesets.proofs.Positions.{game_law}
 use Rattle.calls.specs.Entering.{parts, parts_of_all}
 use Rattle.calls.specs.Positions.{order_in, order}
 
-joined_same : (P : ℕ → Type 0) (f h : ℕ → List ℕ) → ((n : ℕ) → P n → f n ≡ h n) → (ns : List ℕ) → All P ns → flat_map f ns ≡ flat_map h ns
+joined_same : (P : ℕ → Type 0) (f h : ℕ → List ℕ) → ((n : ℕ) → P n → f n ≡ h n) → (ns : List ℕ) → AllByRecursion P ns → flat_map f ns ≡ flat_map h ns
 joined_same P f h e [] a = refl
 joined_same P f h e (n ∷ ns) a = ap₂ ◌++◌ (e n a.0) (joined_same P f h e ns a.1)
 
 all_orders : (R : Rules) (f : ℕ → List ℕ) (P : ℕ → Type 0) → ((m : ℕ) → P m → map (game R) (f m) ≡ parts (game R m))
-    → (ns : List ℕ) → All P ns → map (game R) (flat_map f ns) ≡ parts_of_all (each (game R) ns)
+    → (ns : List ℕ) → AllByRecursion P ns → map (game R) (flat_map f ns) ≡ parts_of_all (each (game R) ns)
 all_orders R f P e [] a = refl
 all_orders R f P e (n ∷ ns) a = map-append (game R) (f n) (flat_map f ns) ∙ ap₂ ◌++◌ (e n a.0) (all_orders R f P e ns a.1)
 
 module _ (R : Rules) (l : Lawful R) where
-  no_moves : (n : ℕ) (ns : List ℕ) → All (λ m. (R.legal m ≡ true) × (R.rank m < R.rank n)) ns → R.rank n ≤ 0 → ns ≡ []
+  no_moves : (n : ℕ) (ns : List ℕ) → AllByRecursion (λ m. (R.legal m ≡ true) × (R.rank m < R.rank n)) ns → R.rank n ≤ 0 → ns ≡ []
   no_moves n [] a k = refl
   no_moves n (m ∷ ns) a k = let h = a.0.1 in absurd (omega arith)
 

@@ -1,7 +1,7 @@
 -- The forms of nodes: what a row added at the end changes, and a node's law.
 -- Assumes nothing.
 use Rattle.std.proofs.Common.{◌≡◌, ℕ, suc, ◌+◌, ◌<◌, ◌≤◌, List, [], ◌∷◌, ◌++◌, length, get_or, take, drop, sym, refl, ap, ◌∙◌, ap₂, append_assoc, arith}
-use Rattle.std.specs.List.{AllByRecursion as All}
+use Rattle.std.specs.List.{AllByRecursion}
 use Rattle.std.proofs.lemmas.List.{length-append, length-take-le, get_or_append_left, get_or_past, get_or_push, set_split, set-get_or}
 use Rattle.games.specs.Form.{Form, form, ◌&◌, 𝟎}
 use Rattle.games.specs.Numbered.{Lists, each, form_by}
@@ -45,7 +45,7 @@ pub node_past : (rows : Rows) (n : ℕ) → length rows ≤ n → node rows n �
 unfolding node
 node_past rows n h = let k = made_length [] rows in get_or_past (made_after [] rows) n 𝟎 (omega arith)
 
-pub each_same : (P : ℕ → Type 0) (f h : ℕ → Form) → ((n : ℕ) → P n → f n ≡ h n) → (ns : List ℕ) → All P ns → each f ns ≡ each h ns
+pub each_same : (P : ℕ → Type 0) (f h : ℕ → Form) → ((n : ℕ) → P n → f n ≡ h n) → (ns : List ℕ) → AllByRecursion P ns → each f ns ≡ each h ns
 each_same P f h e [] a = refl
 each_same P f h e (n ∷ ns) a = ap₂ ◌&◌ (e n a.0) (each_same P f h e ns a.1)
 

@@ -1,7 +1,7 @@
 -- A list of calls worked through: a position valued, a text read, a draft sealed, a node printed, and two refusals between.
 -- Assumes nothing.
 use Rattle.std.proofs.Common.{◌≡◌, ℕ, zero, suc, ◌<◌, ◌≤◌, Bool, true, false, cond, eqb, List, [], ◌∷◌, length, take, refl, arith}
-use Rattle.std.specs.List.{AllByRecursion as All}
+use Rattle.std.specs.List.{AllByRecursion}
 use Rattle.games.specs.declared.side.Side.{Side}
 use Rattle.games.specs.declared.side.Side.TheVariants.{Left, Right}
 use Rattle.games.specs.Form.{Form, form, ∅, ◌&◌, 𝟎, 𝟏}
@@ -100,7 +100,7 @@ counter_lawful = record {
     shallow (suc zero) = omega arith
     shallow (suc (suc n)) = omega arith
 
-    falls : (s : Side) (n : ℕ) → All (λ m. (counter.legal m ≡ true) × (counter.rank m < counter.rank n)) (counter.moves s n)
+    falls : (s : Side) (n : ℕ) → AllByRecursion (λ m. (counter.legal m ≡ true) × (counter.rank m < counter.rank n)) (counter.moves s n)
     falls Left zero = tt
     falls Left (suc zero) = ((refl, omega arith), tt)
     falls Left (suc (suc n)) = tt

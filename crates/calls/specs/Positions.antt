@@ -1,7 +1,7 @@
 -- The calls on a position: its value, and a first move.
 -- Assumes nothing.
 use Rattle.std.specs.Prelude.{◌≡◌, ℕ, zero, suc, ◌<◌, true, false, List, [], ◌∷◌, ◌++◌, length, Some, None, Option, slice_index}
-use Rattle.std.specs.List.{flat_map, AllByRecursion as All}
+use Rattle.std.specs.List.{flat_map, AllByRecursion}
 use Rattle.games.specs.declared.side.Side.{Side}
 use Rattle.games.specs.declared.side.Side.TheVariants.{Left, Right}
 use Rattle.games.specs.Numbered.{each}
@@ -29,7 +29,7 @@ pub data Values (R : Rules) (capacity : ℕ) (rows : Rows) (code : ℕ) : Answer
 -- the index of a successor from which the mover, now second, wins; or none, where there is none
 pub data Winning (R : Rules) (s : Side) (code : ℕ) : Option ℕ → Type 0 where
   index : (i : ℕ) → i < length (R.moves s code) → mover_wins R s (slice_index (R.moves s code) i) ≡ true → Winning R s code (Some i)
-  nowhere : All (λ m. mover_wins R s m ≡ false) (R.moves s code) → Winning R s code None
+  nowhere : AllByRecursion (λ m. mover_wins R s m ≡ false) (R.moves s code) → Winning R s code None
 
 -- First move: all successors of the mover's side are valued in order, and then a winning one is told.
 pub data FirstMoves (R : Rules) (capacity : ℕ) (rows : Rows) (s : Side) (code : ℕ) : Answer (Option ℕ) → Rows → List Entry → Type 0 where

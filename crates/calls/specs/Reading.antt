@@ -1,7 +1,7 @@
 -- The calls on a text: reading it into a dictionary, and looking it up in a frozen one.
 -- Assumes nothing.
 use Rattle.std.specs.Prelude.{◌≡◌, ℕ, ◌<◌, List, [], ◌∷◌, ◌++◌, length, slice_index}
-use Rattle.std.specs.List.{AllByRecursion as All}
+use Rattle.std.specs.List.{AllByRecursion}
 use Rattle.games.specs.Form.{Form}
 use Rattle.calls.specs.Rows.{Rows, node}
 use Rattle.calls.specs.Answers.{Answer, told, refused_at}
@@ -29,5 +29,5 @@ pub record Listed (rows : Rows) (g : Form) : Type 0 where
 pub data LooksUp (rows : Rows) (t : List ℕ) : Answer ℕ → Type 0 where
   faulty : {f place : ℕ} → Fault t f place → LooksUp rows t (refused_at f place)
   listed : (g : Form) (n : ℕ) → Written t g → Stands rows g n → LooksUp rows t (told n)
-  missing : (g h : Form) (before behind : List Form) → Written t g → parts g ≡ before ++ h ∷ behind → All (Listed rows) before → ¬ Listed rows h
+  missing : (g h : Form) (before behind : List Form) → Written t g → parts g ≡ before ++ h ∷ behind → AllByRecursion (Listed rows) before → ¬ Listed rows h
       → LooksUp rows t (refused_at 9 (slice_index (closings 0 t) (length before)))

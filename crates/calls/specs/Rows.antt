@@ -1,7 +1,7 @@
 -- A dictionary's rows, and the forms of its nodes.
 -- Assumes nothing.
 use Rattle.std.specs.Prelude.{ℕ, ◌<◌, List, [], ◌∷◌, ◌++◌, get_or, slice_index_or}
-use Rattle.std.specs.List.{AllByRecursion as All}
+use Rattle.std.specs.List.{AllByRecursion}
 use Rattle.games.specs.Form.{Form, 𝟎}
 use Rattle.games.specs.Numbered.{Lists, form_by}
 
@@ -25,8 +25,8 @@ node rows n = slice_index_or (made_after [] rows) n 𝟎
 
 -- both lists name only numbers below n
 pub record Below (n : ℕ) (l : Lists) : Type 0 where
-  pub on_left : All (λ m. m < n) l.left
-  pub on_right : All (λ m. m < n) l.right
+  pub on_left : AllByRecursion (λ m. m < n) l.left
+  pub on_right : AllByRecursion (λ m. m < n) l.right
 
 -- x stands in the list
 pub data ◌among◌ {A : Type 0} (x : A) : List A → Type 0 where

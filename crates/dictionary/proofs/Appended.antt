@@ -1,7 +1,7 @@
 -- What a store answers to a row that names its nodes, and the rows then.
 -- Assumes nothing.
 use Rattle.std.proofs.Common.{◌≡◌, ℕ, ◌<◌, ◌≤◌, Bool, true, false, cond, ◌&&◌, ltb, leb, List, [], ◌∷◌, ◌++◌, length, is_ok, Some, None, Ok, Err, Option, Result, sym, refl, ap, ◌∙◌, arith, ltb-false, ltb-true, lt-ltb, le-leb}
-use Rattle.std.specs.List.{AllByRecursion as All}
+use Rattle.std.specs.List.{AllByRecursion}
 use Rattle.std.specs.Option.{option_map}
 use Rattle.games.specs.declared.side.Side.TheVariants.{Left, Right}
 use Rattle.games.specs.Numbered.{Lists}
@@ -16,7 +16,7 @@ use Rattle.stores.specs.Rows.{Rows, all_below, append_answer, append_rows, names
 use Rattle.calls.specs.Rows.{Below}
 use Rattle.dictionary.specs.Kept.{row_for}
 
-below_all : (n : ℕ) (xs : List ℕ) → All (λ m. m < n) xs → all_below n xs ≡ true
+below_all : (n : ℕ) (xs : List ℕ) → AllByRecursion (λ m. m < n) xs → all_below n xs ≡ true
 below_all n [] a = refl
 below_all n (x ∷ xs) a = let h = lt-ltb x n a.0 in let k = below_all n xs a.1 in simp (h, k)
 

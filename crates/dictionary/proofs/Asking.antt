@@ -1,7 +1,7 @@
 -- What the tables tell of two nodes is how the nodes of the store compare.
 -- Assumes nothing.
 use Rattle.std.proofs.Common.{◌≡◌, ℕ, ◌<◌, ◌≤◌, Bool, true, false, not, ◌&&◌, ltb, ◌⊎◌, List, [], ◌∷◌, length, Ok, Err, Result, sym, refl, ap, ◌∙◌, subst, ap₂, inl, inr, arith, lt-ltb}
-use Rattle.std.specs.List.{AllByRecursion as All}
+use Rattle.std.specs.List.{AllByRecursion}
 use Rattle.games.specs.declared.outcome.Comparison.{Comparison}
 use Rattle.games.specs.declared.outcome.Outcome.{Outcome}
 use Rattle.games.specs.Form.{Form, 𝟎, form, ∅}
@@ -40,7 +40,7 @@ compares rows t kept a b h l above below x e f is =
 pub compares_not : (rows : Rows) (t : Tables) → Kept rows t → (a b : ℕ) → (count t ≤ a) ⊎ (count t ≤ b) → Compares rows a b (refused 1)
 compares_not rows t kept a b h = subst (λ r. Compares r a b (refused 1)) (sym kept) (Compares.unknown h)
 
-none_each : (f : ℕ → Form) (xs : List ℕ) → All (λ m. m < 0) xs → each f xs ≡ ∅
+none_each : (f : ℕ → Form) (xs : List ℕ) → AllByRecursion (λ m. m < 0) xs → each f xs ≡ ∅
 none_each f [] a = refl
 none_each f (x ∷ xs) a = let h = a.0 in absurd (omega arith)
 

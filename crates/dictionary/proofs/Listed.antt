@@ -1,7 +1,7 @@
 -- The row of two sets has just the numbers of the sets.
 -- Assumes nothing.
 use Rattle.std.proofs.Common.{◌≡◌, ℕ, ◌<◌, Bool, true, false, cond, ◌||◌, eqb, List, [], ◌∷◌, vec_items, filter, sym, refl, subst, arith, eqb-true}
-use Rattle.std.specs.List.{AllByRecursion as All}
+use Rattle.std.specs.List.{AllByRecursion}
 use Rattle.games.specs.declared.side.Side.TheVariants.{Left, Right}
 use Rattle.games.specs.Numbered.{Lists}
 use Rattle.nodesets.specs.Pairs.{Sets, Within}
@@ -42,7 +42,7 @@ pub row_lists : (t : Tables) (o : Sets) → Within (count t) o → ListsOf o (ro
 row_lists t o within Left k = (among_kept (o Left) (vec_items t.listing) k, λ e. kept_among (o Left) (vec_items t.listing) k e (any_among (vec_items t.listing) k (t.complete k (let h = within Left k e in let c = count_links t in omega arith))))
 row_lists t o within Right k = (among_kept (o Right) (vec_items t.listing) k, λ e. kept_among (o Right) (vec_items t.listing) k e (any_among (vec_items t.listing) k (t.complete k (let h = within Right k e in let c = count_links t in omega arith))))
 
-all_among : (n : ℕ) (ks : List ℕ) → All (λ m. m < n) ks → (k : ℕ) → k among ks → k < n
+all_among : (n : ℕ) (ks : List ℕ) → AllByRecursion (λ m. m < n) ks → (k : ℕ) → k among ks → k < n
 all_among n [] a k i = elim i [ ]
 all_among n (m ∷ ks) a k first = a.0
 all_among n (m ∷ ks) a k (later i) = all_among n ks a.1 k i

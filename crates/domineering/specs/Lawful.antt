@@ -3,7 +3,7 @@
 use Rattle.std.specs.Prelude.{◌≡◌, ℕ, suc, ◌+◌, ◌*◌, ◌/◌, ◌^◌, ◌<◌, ◌≤◌, Bool, true, false, not, ◌&&◌, ◌||◌, ◌≢◌, [], map, length, nat_lt, refl}
 use Rattle.std.proofs.Common.{sym, ◌∙◌, ap, arith, pow_mono}
 use Rattle.std.specs.Int.Bits.{bit_or}
-use Rattle.std.specs.List.{AllByRecursion as All}
+use Rattle.std.specs.List.{AllByRecursion}
 use Rattle.std.proofs.lemmas.Nat.{or_lt, pow_below, pow_pos}
 use Rattle.std.proofs.ByRecursion.{All-map, All-weaker}
 use Rattle.std.proofs.lemmas.List.{length-map}
@@ -86,9 +86,9 @@ module _ (r c : ℕ) (size : sized r c ≡ true) where
       (λ h. omega (arith, few, length_places (r * c) (free (r * c) n)))
       (λ h. omega arith)
 
-  falls : (s : Side) (n : ℕ) → All (λ m. ((domineering r c).legal m ≡ true) × ((domineering r c).rank m < (domineering r c).rank n)) ((domineering r c).moves s n)
+  falls : (s : Side) (n : ℕ) → AllByRecursion (λ m. ((domineering r c).legal m ≡ true) × ((domineering r c).rank m < (domineering r c).rank n)) ((domineering r c).moves s n)
   falls s n =
-      cond_both (nat_lt n (2 ^ (r * c))) (map (covered s c n) (places (r * c) (fits s r c n))) [] (λ ys. All (λ m. ((domineering r c).legal m ≡ true) × ((domineering r c).rank m < (domineering r c).rank n)) ys)
+      cond_both (nat_lt n (2 ^ (r * c))) (map (covered s c n) (places (r * c) (fits s r c n))) [] (λ ys. AllByRecursion (λ m. ((domineering r c).legal m ≡ true) × ((domineering r c).rank m < (domineering r c).rank n)) ys)
       (λ h. All-map _ (covered s c n) (places (r * c) (fits s r c n)) (All-weaker (λ i. (i < r * c) × (fits s r c n i ≡ true)) _ (λ i k. (
         legal_move s r c n i size (ltb-true n (2 ^ (r * c)) h) k.1,
         rank_falls s r c n i size (ltb-true n (2 ^ (r * c)) h) k.1,

@@ -2,7 +2,7 @@
 use Rattle.std.proofs.Common.{◌≡◌, ℕ, ◌+◌, ◌^◌, ◌<◌, Bool, true, false, cond, not, ◌&&◌, ◌||◌, eqb, ◌≢◌, sym, refl, ◌∙◌, subst, inl, inr, arith}
 use lib.Count.{count_trailing_zeros}
 use lib.Bits.{bit_and, bit_or, bit_xor}
-use Rattle.std.specs.List.{AllByRecursion as All}
+use Rattle.std.specs.List.{AllByRecursion}
 use Rattle.std.proofs.lemmas.Nat.{or_lt, xor_lt, and_le_r, or_disjoint, pow_below, pow_pos}
 use Rattle.std.proofs.lemmas.Bool.{cases_lt, both_ways, cases_eq, eq-eqb, ne_eqb}
 use Rattle.bits.specs.Bits.{bit}
@@ -58,7 +58,7 @@ module _ (w k : ℕ) (set : bit w k ≡ true) where
 
 -- the lowest set bit
 pub lowest : (w : ℕ) → w < 2 ^ 64 → w ≢ 0 → (count_trailing_zeros 64 w < 64) × (bit w (count_trailing_zeros 64 w) ≡ true)
-lowest w small some = (subst (λ xs. All (λ i. (i < 64) × (bit w i ≡ true)) xs) (places_lowest 64 w small some) (all_places 64 (bit w))).0
+lowest w small some = (subst (λ xs. AllByRecursion (λ i. (i < 64) × (bit w i ≡ true)) xs) (places_lowest 64 w small some) (all_places 64 (bit w))).0
 
 -- a set bit lies within the number
 pub bit_within : (w k j : ℕ) → w < 2 ^ k → bit w j ≡ true → j < k

@@ -1,7 +1,7 @@
 -- The answers of the ruleset, from words of 64 bits to the edges that there are.
 use Rattle.std.proofs.Common.{◌≡◌, ℕ, zero, suc, ◌^◌, ◌<◌, ◌≤◌, true, false, cond, ◌&&◌, eqb, ltb, List, [], ◌∷◌, length, Some, None, Option, sym, refl, ap, ◌∙◌, inl, inr, arith}
 use lib.Bits.{bit_and}
-use Rattle.std.specs.List.{slice_get, AllByRecursion as All}
+use Rattle.std.specs.List.{slice_get, AllByRecursion}
 use Rattle.std.specs.Option.{option_map}
 use Rattle.std.proofs.lemmas.List.{length-map}
 use Rattle.std.proofs.lemmas.Option.{slice_get_past}
@@ -23,7 +23,7 @@ legal_test es n = elim (cases_Bool (eqb (fall es (bit n)) n)) [
   | inr e ↦ rw e (sym (and_right (ltb n (2 ^ length es)) false refl))
 ]
 
-all_nth : (P : ℕ → Type 0) (xs : List ℕ) (i k : ℕ) → All P xs → Some k ≡ slice_get xs i → P k
+all_nth : (P : ℕ → Type 0) (xs : List ℕ) (i k : ℕ) → AllByRecursion P xs → Some k ≡ slice_get xs i → P k
 all_nth P [] i k a e = absurd (let z : ◌≡◌ {A = ℕ} 0 1 = cc in omega arith)
 all_nth P (x ∷ xs) zero k a e = let q : k ≡ x = cc in rw q a.0
 all_nth P (x ∷ xs) (suc i) k a e = all_nth P xs i k a.1 e

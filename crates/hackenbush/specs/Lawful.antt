@@ -2,7 +2,7 @@
 use Rattle.std.specs.Prelude.{◌≡◌, ℕ, zero, suc, ◌<◌, ◌≤◌, Bool, true, false, cond, ◌&&◌, List, [], map, length, refl}
 use Rattle.std.proofs.Common.{sym, ◌∙◌, arith}
 use Rattle.std.proofs.Math.Logic.{inl, inr}
-use Rattle.std.specs.List.{AllByRecursion as All}
+use Rattle.std.specs.List.{AllByRecursion}
 use Rattle.std.proofs.lemmas.Nat.{pow_pos, pow_below}
 use Rattle.std.proofs.ByRecursion.{All-map, All-weaker}
 use Rattle.std.proofs.lemmas.List.{length-map}
@@ -67,7 +67,7 @@ module _ (es : List Edge) (size : fits es ≡ true) where
   unfolding Lower
   cut_lower s n i h = (fall_legal es (without n i), rw (fall_legal es (without n i)) (cut_fewer es n i h.0 (and_parts (bit n i) _ h.1).0))
 
-  falls : (s : Side) (n : ℕ) → All (λ m. (legal es m ≡ true) × ((hackenbush es).rank m < (hackenbush es).rank n)) ((hackenbush es).moves s n)
+  falls : (s : Side) (n : ℕ) → AllByRecursion (λ m. (legal es m ≡ true) × ((hackenbush es).rank m < (hackenbush es).rank n)) ((hackenbush es).moves s n)
   unfolding Lower
   falls s n =
       let can : ℕ → Bool = λ i. bit n i && painted s es i in

@@ -1,7 +1,7 @@
 -- The game of a position is the form whose options are the games of its successors; so who wins it is told by the successors.
 -- Assumes nothing.
 use Rattle.std.proofs.Common.{◌≡◌, ℕ, zero, suc, ◌+◌, ◌<◌, ◌≤◌, Bool, true, false, cond, not, ◌||◌, List, [], ◌∷◌, ◌++◌, map, length, get_or, Some, None, filter, sym, refl, ap, ◌∙◌, ap₂, append-nil, arith}
-use Rattle.std.specs.List.{AllByRecursion as All, range_with_len, slice_get}
+use Rattle.std.specs.List.{AllByRecursion, range_with_len, slice_get}
 use Rattle.std.proofs.lemmas.List.FromFn.{filter_of_map_range_with_len_more}
 use Rattle.std.proofs.ByRecursion.{All-get_or}
 use Rattle.games.specs.declared.side.Side.{Side}
@@ -14,12 +14,12 @@ use Rattle.games.proofs.Play.{wins_law}
 use Rattle.rulesets.specs.Rules.{Rules, Lawful, successors, game_in, game}
 use Rattle.rulesets.specs.Winning.{starter_wins, mover_wins}
 
-each_same : (P : ℕ → Type 0) (f h : ℕ → Form) → ((n : ℕ) → P n → f n ≡ h n) → (ns : List ℕ) → All P ns → each f ns ≡ each h ns
+each_same : (P : ℕ → Type 0) (f h : ℕ → Form) → ((n : ℕ) → P n → f n ≡ h n) → (ns : List ℕ) → AllByRecursion P ns → each f ns ≡ each h ns
 each_same P f h e [] a = refl
 each_same P f h e (n ∷ ns) a = ap₂ ◌&◌ (e n a.0) (each_same P f h e ns a.1)
 
 module _ (R : Rules) (l : Lawful R) where
-  none_left : (n : ℕ) (f : ℕ → Form) (ns : List ℕ) → All (λ m. (R.legal m ≡ true) × (R.rank m < R.rank n)) ns → R.rank n ≤ 0 → each f ns ≡ ∅
+  none_left : (n : ℕ) (f : ℕ → Form) (ns : List ℕ) → AllByRecursion (λ m. (R.legal m ≡ true) × (R.rank m < R.rank n)) ns → R.rank n ≤ 0 → each f ns ≡ ∅
   none_left n f [] a k = refl
   none_left n f (m ∷ ns) a k = let h = a.0.1 in absurd (omega arith)
 

@@ -1,7 +1,7 @@
 -- Rulesets, and the game of a position.
 -- Assumes nothing.
 use Rattle.std.specs.Prelude.{◌≡◌, ℕ, zero, suc, ◌^◌, ◌<◌, ◌≤◌, Bool, true, false, List, [], length}
-use Rattle.std.specs.List.{AllByRecursion as All}
+use Rattle.std.specs.List.{AllByRecursion}
 use Rattle.games.specs.declared.side.Side.{Side}
 use Rattle.games.specs.declared.side.Side.TheVariants.{Left, Right}
 use Rattle.games.specs.Form.{Form, 𝟎}
@@ -29,7 +29,7 @@ pub record Lawful (R : Rules) : Type 0 where
   pub narrow : (s : Side) (n : ℕ) → length (R.moves s n) ≤ R.width
   pub shallow : (n : ℕ) → R.rank n ≤ R.depth
   -- every successor is legal and has a smaller rank
-  pub falls : (s : Side) (n : ℕ) → All (λ m. (R.legal m ≡ true) × (R.rank m < R.rank n)) (R.moves s n)
+  pub falls : (s : Side) (n : ℕ) → AllByRecursion (λ m. (R.legal m ≡ true) × (R.rank m < R.rank n)) (R.moves s n)
   -- a code that is not legal has no successors and rank 0
   pub no_moves : (s : Side) (n : ℕ) → R.legal n ≡ false → R.moves s n ≡ []
   pub no_rank : (n : ℕ) → R.legal n ≡ false → R.rank n ≡ 0

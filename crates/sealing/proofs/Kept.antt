@@ -1,7 +1,7 @@
 -- The listing of the nodes, and the rows in its order.
 -- Assumes nothing.
 use Rattle.std.proofs.Common.{◌≡◌, ℕ, zero, suc, ◌+◌, ◌<◌, Bool, true, false, cond, List, [], ◌∷◌, ◌++◌, map, length, get_or, take, drop, filter, sym, refl, ap, ◌∙◌, subst, ap₂, inl, inr, arith}
-use Rattle.std.specs.List.{AllByRecursion as All}
+use Rattle.std.specs.List.{AllByRecursion}
 use Rattle.std.proofs.lemmas.List.{length_push, map-append}
 use Rattle.std.proofs.lemmas.Bool.{cases_Bool}
 use Rattle.games.specs.declared.side.Side.{Side}
@@ -81,10 +81,10 @@ rows_more os new q ks r e lower within =
     old i h s = lacks (length os) (get_or os i none) (λ z k t. let l = lower i z k t in omega arith) s
 
 -- what a row of sets names
-pub kept_below : (n : ℕ) (p : ℕ → Bool) (ks : List ℕ) → ((k : ℕ) → p k ≡ true → k < n) → All (λ k. k < n) (filter p ks)
+pub kept_below : (n : ℕ) (p : ℕ → Bool) (ks : List ℕ) → ((k : ℕ) → p k ≡ true → k < n) → AllByRecursion (λ k. k < n) (filter p ks)
 kept_below n p [] f = tt
 kept_below n p (k ∷ ks) f = go (p k) refl (kept_below n p ks f)
   where
-    go : (b : Bool) → p k ≡ b → All (λ k. k < n) (filter p ks) → All (λ k. k < n) (cond b (k ∷ filter p ks) (filter p ks))
+    go : (b : Bool) → p k ≡ b → AllByRecursion (λ k. k < n) (filter p ks) → AllByRecursion (λ k. k < n) (cond b (k ∷ filter p ks) (filter p ks))
     go true e rest = (f k e, rest)
     go false e rest = rest

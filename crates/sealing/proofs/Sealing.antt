@@ -1,7 +1,7 @@
 -- What the tables say of the nodes, and what sealing answers.
 -- Assumes nothing.
 use Rattle.std.proofs.Common.{◌≡◌, ℕ, ◌+◌, ◌<◌, Bool, true, cond, List, [], ◌∷◌, ◌++◌, map, length, get_or, take, drop, vec_items, vec_len, vec_capacity, filter, sym, refl, ap, ◌∙◌, subst, arith}
-use Rattle.std.specs.List.{AllByRecursion as All}
+use Rattle.std.specs.List.{AllByRecursion}
 use Rattle.std.proofs.lemmas.List.{length-map, length_push, get_or-map}
 use Rattle.std.proofs.lemmas.Bool.{cond-true}
 use Rattle.games.specs.declared.side.Side.{Side}
@@ -43,7 +43,7 @@ row_side : (ks : List ℕ) (o : Sets) (s : Side) → list_of s (in_order ks o) �
 row_side ks o Left = refl
 row_side ks o Right = refl
 
-pub row_below : (n : ℕ) (ks : List ℕ) (o : Sets) → Within n o → (s : Side) → All (λ j. j < n) (list_of s (in_order ks o))
+pub row_below : (n : ℕ) (ks : List ℕ) (o : Sets) → Within n o → (s : Side) → AllByRecursion (λ j. j < n) (list_of s (in_order ks o))
 row_below n ks o within s = rw (row_side ks o s) (kept_below n (o s) ks (within s))
 
 module _ (t : Tables) where
@@ -62,13 +62,13 @@ module _ (t : Tables) where
   pub sound : Sound t
   sound = record {
     reads = λ k h. sym (game_node (links t.nodes) t.nodes.lower k (at_links k h)) ∙ form_is (get_or (links t.nodes) k none) (λ s j u. let l = inside k h s j u in omega arith) ∙ ap (form_by (node_of t)) (sym (row_is k h));
-    lower = λ k h s. subst (λ l. All (λ j. j < k) (list_of s l)) (sym (row_is k h)) (row_below k (vec_items t.listing) (get_or (links t.nodes) k none) (inside k h) s);
+    lower = λ k h s. subst (λ l. AllByRecursion (λ j. j < k) (list_of s l)) (sym (row_is k h)) (row_below k (vec_items t.listing) (get_or (links t.nodes) k none) (inside k h) s);
     canonical = λ k h. canonical_is (node_of t k) (T_true (is_canonical (node_of t k)) (t.nodes.canonical k (at_links k h)));
     apart = λ j k h l e. t.nodes.apart j k (at_links j h, at_links k l, e);
   }
 
   -- two lists of nodes with the same forms are one
-  each_same : (xs ys : List ℕ) → All (λ j. j < count t) xs → All (λ j. j < count t) ys → each (node_of t) xs ≡ each (node_of t) ys → xs ≡ ys
+  each_same : (xs ys : List ℕ) → AllByRecursion (λ j. j < count t) xs → AllByRecursion (λ j. j < count t) ys → each (node_of t) xs ≡ each (node_of t) ys → xs ≡ ys
   each_same [] [] a b e = refl
   each_same [] (y ∷ ys) a b e = let z : ◌≡◌ {A = ℕ} 0 1 = cc in absurd (omega arith)
   each_same (x ∷ xs) [] a b e = let z : ◌≡◌ {A = ℕ} 0 1 = cc in absurd (omega arith)

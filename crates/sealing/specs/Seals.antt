@@ -1,7 +1,7 @@
 -- What the tables say, and what a pair of sets of nodes seals to.
 -- Assumes nothing.
 use Rattle.std.specs.Prelude.{◌≡◌, ℕ, ◌<◌, ◌≤◌, Bool, ◌⊎◌, List, [], ◌∷◌, ◌++◌, map, length, vec_items, filter, Option, MatchOption, slice_index_or}
-use Rattle.std.specs.List.{AllByRecursion as All}
+use Rattle.std.specs.List.{AllByRecursion}
 use Rattle.games.specs.declared.side.Side.{Side}
 use Rattle.games.specs.declared.side.Side.TheVariants.{Left, Right}
 use Rattle.games.specs.Form.{Form}
@@ -51,7 +51,7 @@ pub record Sound (t : Tables) : Type 0 where
   -- a node's form has as options the forms of the nodes that its row names
   pub reads : (k : ℕ) → k < count t → node_of t k ≡ form_by (node_of t) (row_at t k)
   -- a row names lower numbers only
-  pub lower : (k : ℕ) → k < count t → (s : Side) → All (λ j. j < k) (list_of s (row_at t k))
+  pub lower : (k : ℕ) → k < count t → (s : Side) → AllByRecursion (λ j. j < k) (list_of s (row_at t k))
   -- each node is canonical: so each list of its row is in rising listing order
   pub canonical : (k : ℕ) → k < count t → Canonical (node_of t k)
   -- no two nodes are equal in value
@@ -63,7 +63,7 @@ Fresh t o = (k : ℕ) → k < count t → ¬ (form_of t o ≈ node_of t k)
 
 -- the row l names nodes, and its form is the canonical form of the two sets
 pub record CanonicalRow (t : Tables) (o : Sets) (l : Lists) : Type 0 where
-  pub names : (s : Side) → All (λ j. j < count t) (list_of s l)
+  pub names : (s : Side) → AllByRecursion (λ j. j < count t) (list_of s l)
   pub value : form_of t o ≈ form_by (node_of t) l
   pub canonical : Canonical (form_by (node_of t) l)
 

@@ -2,7 +2,7 @@
 -- Assumes nothing.
 use Rattle.std.proofs.Common.{◌≡◌, ℕ, zero, suc, ◌<◌, true, List, [], ◌∷◌, ◌++◌, map, sym, refl, ap, ◌∙◌, ap₂, arith}
 use lib.Arith.{digits_div, digits_mod}
-use Rattle.std.specs.List.{AllByRecursion as All}
+use Rattle.std.specs.List.{AllByRecursion}
 use Rattle.games.specs.declared.side.Side.{Side}
 use Rattle.games.specs.declared.side.Side.TheVariants.{Left, Right}
 use Rattle.games.specs.Form.{Form, form, ◌&◌, ◌⧺◌}
@@ -36,7 +36,7 @@ each_append : (f : ℕ → Form) (ms ns : List ℕ) → each f (ms ++ ns) ≡ ea
 each_append f [] ns = refl
 each_append f (m ∷ ms) ns = ap (λ t. f m & t) (each_append f ms ns)
 
-each_changed : (P : ℕ → Type 0) (f h : ℕ → Form) (c : Form → Form) (k : ℕ → ℕ) → ((n : ℕ) → P n → f (k n) ≡ c (h n)) → (ns : List ℕ) → All P ns → each f (map k ns) ≡ changed c (each h ns)
+each_changed : (P : ℕ → Type 0) (f h : ℕ → Form) (c : Form → Form) (k : ℕ → ℕ) → ((n : ℕ) → P n → f (k n) ≡ c (h n)) → (ns : List ℕ) → AllByRecursion P ns → each f (map k ns) ≡ changed c (each h ns)
 each_changed P f h c k e [] a = refl
 each_changed P f h c k e (n ∷ ns) a = ap₂ ◌&◌ (e n a.0) (each_changed P f h c k e ns a.1)
 

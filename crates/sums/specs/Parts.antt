@@ -5,7 +5,7 @@ use Rattle.std.proofs.Common.{◌∙◌, div-add-mod', arith, leb-true}
 use Rattle.std.proofs.Math.Path.{ap}
 use Rattle.std.proofs.Math.Nat.{mul-pos}
 use Rattle.std.proofs.Math.Arith.{digits_lt, digits_div, digits_mod}
-use Rattle.std.specs.List.{AllByRecursion as All}
+use Rattle.std.specs.List.{AllByRecursion}
 use Rattle.std.proofs.lemmas.List.{length-map, length-append}
 use Rattle.std.proofs.ByRecursion.{All-append, All-map, All-weaker}
 use Rattle.games.specs.declared.side.Side.{Side}
@@ -110,7 +110,7 @@ module _ (A B : Rules) where
     Falls : ℕ → ℕ → Type 0
     Falls n m = (legal_both A B m ≡ true) × ((plus A B).rank m < (plus A B).rank n)
 
-    falls_both : (s : Side) (n : ℕ) → legal_both A B n ≡ true → All (Falls n) (moves_in A B s (first_code B n) (second_code B n))
+    falls_both : (s : Side) (n : ℕ) → legal_both A B n ≡ true → AllByRecursion (Falls n) (moves_in A B s (first_code B n) (second_code B n))
     unfolding Falls
     falls_both s n e = All-append (Falls n) _ _
         (All-map (Falls n) (λ m. code_of B m (second_code B n)) _ (All-weaker _ _ (λ m h. first_falls n m e h.0 h.1) _ (la.falls s (first_code B n))))
@@ -148,7 +148,7 @@ module _ (A B : Rules) where
       below = sum_below;
       narrow = λ s n. either (λ ms. length ms ≤ (plus A B).width) (legal_both A B n) [] (sum_narrow s n) (omega arith);
       shallow = λ n. either (λ r. r ≤ (plus A B).depth) (legal_both A B n) 0 (sum_shallow n) (omega arith);
-      falls = λ s n. either (All (Falls n)) (legal_both A B n) [] (falls_both s n) tt;
+      falls = λ s n. either (AllByRecursion (Falls n)) (legal_both A B n) [] (falls_both s n) tt;
       no_moves = λ s n e. ap (λ b. cond b (moves_in A B s (first_code B n) (second_code B n)) []) e;
       no_rank = λ n e. ap (λ b. cond b (A.rank (first_code B n) + B.rank (second_code B n)) 0) e;
     }

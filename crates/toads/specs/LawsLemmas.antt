@@ -3,7 +3,7 @@
 use Rattle.std.specs.Prelude.{◌≡◌, ℕ, suc, ◌+◌, ◌-◌, ◌*◌, ◌%◌, ◌^◌, ◌<◌, ◌≤◌, Bool, true, false, cond, ◌&&◌, ◌||◌, ltb, ◌≢◌, List, [], ◌++◌, map, length, count_by, ◌==◌, nat_lt, refl}
 use Rattle.std.proofs.Common.{sym, ◌∙◌, ap, ap₂, inl, inr, arith}
 use Rattle.std.proofs.Math.Nat.{pow-le-pow_right}
-use Rattle.std.specs.List.{range_with_len, AllByRecursion as All}
+use Rattle.std.specs.List.{range_with_len, AllByRecursion}
 use Rattle.std.proofs.lemmas.List.FromFn.{length-map-range_with_len}
 use Rattle.std.proofs.ByRecursion.{All-map, All-weaker}
 use Rattle.std.proofs.lemmas.List.{length-map}
@@ -161,7 +161,7 @@ toads_lawful n few = record {
     ranks : (c e : ℕ) → legal n c ≡ true → Moved n c e → (legal n e ≡ true) × (cond (legal n e) (pairs (cells n e)) 0 < cond (legal n c) (pairs (cells n c)) 0)
     ranks c e ok m = (m.still_legal, rw (m.still_legal, ok) (let k = m.one_less in omega arith))
 
-    falls : (s : Side) (c : ℕ) (b : Bool) → legal n c ≡ b → All (λ e. (legal n e ≡ true) × (cond (legal n e) (pairs (cells n e)) 0 < cond (legal n c) (pairs (cells n c)) 0)) (cond b (map (after n c s) (places n (can_move n c s))) [])
+    falls : (s : Side) (c : ℕ) (b : Bool) → legal n c ≡ b → AllByRecursion (λ e. (legal n e ≡ true) × (cond (legal n e) (pairs (cells n e)) 0 < cond (legal n c) (pairs (cells n c)) 0)) (cond b (map (after n c s) (places n (can_move n c s))) [])
     falls s c true ok = All-map _ (after n c s) (places n (can_move n c s)) (All-weaker _ _ (λ i h. ranks c (after n c s i) ok (move_falls n c ok s i h.1)) (places n (can_move n c s)) (all_places n (can_move n c s)))
     falls s c false ok = tt
 

@@ -1,7 +1,7 @@
 -- The steps of a first move with a memory: successors are valued in turn, and the earliest winning one is kept.
 -- Assumes nothing.
 use Rattle.std.proofs.Common.{◌≡◌, ℕ, suc, ◌+◌, ◌<◌, ◌≤◌, Bool, true, false, not, List, [], ◌∷◌, ◌++◌, length, get_or, take, drop, Some, None, Err, Option, Result, sym, refl, ap, ◌∙◌, subst, arith, below_more, MatchOption}
-use Rattle.std.specs.List.{slice_get, AllByRecursion as All}
+use Rattle.std.specs.List.{slice_get, AllByRecursion}
 use Rattle.std.proofs.lemmas.List.{take_more, take_all}
 use Rattle.games.specs.declared.outcome.Outcome.{Outcome}
 use Rattle.games.specs.declared.side.Side.{Side}
@@ -96,7 +96,7 @@ best_more R s ms i (Some k) r l e b = b
 best_more R s ms i None true l e b = (l, sym e, b)
 best_more R s ms i None false l e b = below_more _ _ b (sym e)
 
-all_from : (P : ℕ → Type 0) (ms : List ℕ) → ((k : ℕ) → k < length ms → P (get_or ms k 0)) → All P ms
+all_from : (P : ℕ → Type 0) (ms : List ℕ) → ((k : ℕ) → k < length ms → P (get_or ms k 0)) → AllByRecursion P ms
 all_from P [] h = tt
 all_from P (m ∷ ms) h = (h 0 (omega arith), all_from P ms (λ k l. h (suc k) (omega arith)))
 
