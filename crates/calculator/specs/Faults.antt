@@ -10,7 +10,7 @@ use Rattle.reading.specs.Faults.{read_number}
 use Rattle.calculator.specs.declared.fault.BufferFault.{BufferFault}
 use Rattle.calculator.specs.declared.fault.BufferFault.TheVariants.{Short}
 use Rattle.calculator.specs.declared.fault.CalculatorFault.{CalculatorFault}
-use Rattle.calculator.specs.declared.fault.CalculatorFault.TheVariants.{LongLine, Line, Board, Illegal, Position, Text, Dictionary}
+use Rattle.calculator.specs.declared.fault.CalculatorFault.TheVariants.{LongLine, Line, Board, Illegal, Position, Text, Dictionary, Print}
 
 -- 13 for a line that is too long, 4 for a position that is not legal, and any other fault by its own number
 abbrev pub number_of : CalculatorFault → ℕ
@@ -21,6 +21,7 @@ number_of (Illegal i) = 4
 number_of (Position i f) = Valuing.number_of f
 number_of (Text i f) = read_number f
 number_of (Dictionary f) = Dictionaries.number_of f
+number_of (Print f) = Dictionaries.print_fault_number f
 
 -- its place in the line: a line that is too long at 1,000, an answer that does not fit at 0
 abbrev pub place_of : CalculatorFault → ℕ
@@ -31,6 +32,7 @@ place_of (Illegal i) = i
 place_of (Position i f) = i
 place_of (Text i f) = i
 place_of (Dictionary f) = 0
+place_of (Print f) = 0
 
 -- what is told, or a refusal by its number and place
 abbrev pub answer_of : {A : Type 0} → Result A CalculatorFault → Answer A

@@ -7,7 +7,7 @@ ghost use Rattle.calculator.specs.Entering.{ReadAt, ValuedAt};
 ghost use Rattle.calculator.specs.Faults.{answer_of};
 ghost use Rattle.calculator.specs.Subjects.{EntersSubject};
 
-use crate::boards::{stand, stand_both};
+use crate::laying::{stand, stand_both};
 use crate::calculator::Calculator;
 use crate::fault::CalculatorFault;
 use boards::sum::add;

@@ -1,9 +1,9 @@
 // Why a line is answered by a fault.
 ghost use Rattle.std.specs.Prelude.{◌≡◌};
 ghost use Rattle.calculator.specs.Faults.{buffer_fault_number, number_of, place_of};
-ghost use Rattle.calculator.specs.declared.fault.CalculatorFault.TheVariants.{Dictionary, Line};
+ghost use Rattle.calculator.specs.declared.fault.CalculatorFault.TheVariants.{Dictionary, Line, Print};
 
-use dictionary::fault::DictionaryFault;
+use dictionary::fault::{DictionaryFault, PrintFault};
 use lines::fault::LineFault;
 use reading::fault::ReadFault;
 use rulesets::fault::BoardFault;
@@ -24,8 +24,10 @@ pub enum CalculatorFault {
     Position { place: usize, fault: ValueFault },
     // The text is not read, for a fault at this place.
     Text { place: usize, fault: ReadFault },
-    // The dictionary refuses to tell or to print a node: the answer would have more than 4,096 bytes.
+    // The dictionary refuses to tell a node.
     Dictionary(DictionaryFault),
+    // The dictionary refuses to print a node: the answer would have more than 4,096 bytes.
+    Print(PrintFault),
 }
 
 impl CalculatorFault {
@@ -41,6 +43,7 @@ impl CalculatorFault {
             CalculatorFault::Position { place: _, fault } => fault.number(),
             CalculatorFault::Text { place: _, fault } => fault.number(),
             CalculatorFault::Dictionary(fault) => fault.number(),
+            CalculatorFault::Print(fault) => fault.number(),
         }
     }
 
@@ -56,6 +59,7 @@ impl CalculatorFault {
             CalculatorFault::Position { place, fault: _ } => place,
             CalculatorFault::Text { place, fault: _ } => place,
             CalculatorFault::Dictionary(_) => 0,
+            CalculatorFault::Print(_) => 0,
         }
     }
 }
@@ -73,6 +77,14 @@ impl From<DictionaryFault> for CalculatorFault {
 
     fn from(value: DictionaryFault) -> CalculatorFault {
         CalculatorFault::Dictionary(value)
+    }
+}
+
+impl From<PrintFault> for CalculatorFault {
+    ghost from_gives = { λ fault r. r ≡ Print fault };
+
+    fn from(value: PrintFault) -> CalculatorFault {
+        CalculatorFault::Print(value)
     }
 }
 

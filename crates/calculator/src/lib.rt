@@ -1,5 +1,5 @@
 // The calculator: a line in, a line out.
-mod boards;
+mod laying;
 pub mod calculator;
 mod enter;
 pub mod fault;

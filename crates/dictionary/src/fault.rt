@@ -1,6 +1,6 @@
 // Why a dictionary refuses.
 ghost use Rattle.std.specs.Prelude.{◌≡◌};
-ghost use Rattle.dictionary.specs.Faults.{number_of};
+ghost use Rattle.dictionary.specs.Faults.{number_of, print_fault_number};
 ghost use Rattle.dictionary.specs.declared.fault.DictionaryFault.TheVariants.{Store};
 
 use stores::fault::StoreFault;
@@ -14,8 +14,6 @@ pub enum DictionaryFault {
     Wide,
     // The store does not take a row.
     Store(StoreFault),
-    // A text is longer than the buffer, or than may be printed.
-    Long,
 }
 
 impl DictionaryFault {
@@ -27,7 +25,6 @@ impl DictionaryFault {
             DictionaryFault::Unknown => 1,
             DictionaryFault::Wide => 2,
             DictionaryFault::Store(fault) => fault.number(),
-            DictionaryFault::Long => 5,
         }
     }
 }
@@ -37,5 +34,26 @@ impl From<StoreFault> for DictionaryFault {
 
     fn from(value: StoreFault) -> DictionaryFault {
         DictionaryFault::Store(value)
+    }
+}
+
+// Why a node is not printed.
+#[derive(Clone, Copy)]
+pub enum PrintFault {
+    // The number is not a node's.
+    Unknown,
+    // The text is longer than the buffer, or than may be printed.
+    Long,
+}
+
+impl PrintFault {
+    // The number by which the fault is reported.
+    pub fn number(self) -> u8
+        ensures { result ≡ print_fault_number self }
+    {
+        match self {
+            PrintFault::Unknown => 1,
+            PrintFault::Long => 5,
+        }
     }
 }

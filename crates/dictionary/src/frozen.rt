@@ -2,12 +2,12 @@
 ghost use Rattle.std.specs.Prelude.{◌≡◌};
 ghost use Rattle.calls.specs.Asking.{Compares, TellsOutcome};
 ghost use Rattle.stores.specs.Rows.{lowest};
-ghost use Rattle.dictionary.specs.Faults.{answer_of};
+ghost use Rattle.dictionary.specs.Faults.{answer_of, print_answer};
 ghost use Rattle.dictionary.specs.Kept.{Kept};
 ghost use Rattle.dictionary.specs.Printing.{Printed};
 
 use crate::dictionary::Dictionary;
-use crate::fault::DictionaryFault;
+use crate::fault::{DictionaryFault, PrintFault};
 use games::outcome::{Comparison, Outcome};
 use stores::row::Row;
 use stores::store::Store;
@@ -42,8 +42,8 @@ impl<S: Store> Frozen<S> {
     }
 
     // Writes the text of a node at the front of a buffer, and answers how long it is.
-    pub fn print(&self, node: u16, out: &mut [u8]) -> Result<usize, DictionaryFault>
-        ensures { Printed (S.Store.rows self.now.dictionary.store) node out.old (answer_of result) out.new }
+    pub fn print(&self, node: u16, out: &mut [u8]) -> Result<usize, PrintFault>
+        ensures { Printed (S.Store.rows self.now.dictionary.store) node out.old (print_answer result) out.new }
     {
         self.dictionary.print(node, out)
     }

@@ -4,11 +4,11 @@ ghost use Rattle.std.specs.Option.{SomeIff};
 ghost use Rattle.games.specs.Text.{bytes};
 ghost use Rattle.calls.specs.Asking.{text_length};
 ghost use Rattle.calls.specs.Rows.{node as form_of};
-ghost use Rattle.dictionary.specs.Faults.{answer_of};
+ghost use Rattle.dictionary.specs.Faults.{print_answer};
 ghost use Rattle.dictionary.specs.Printing.{PrintSteps, Printed, options_text, over};
 
 use crate::dictionary::Dictionary;
-use crate::fault::DictionaryFault;
+use crate::fault::PrintFault;
 use games::side::Side;
 use stores::store::Store;
 
@@ -78,16 +78,16 @@ fn write_options<S: Store>(store: &S, side: Side, node: u16, out: &mut [u8], pla
 
 impl<S: Store> Dictionary<S> {
     // Writes the text of a node at the front of a buffer, which stays as it was behind it, and answers how long the text is.
-    pub fn print(&self, node: u16, out: &mut [u8]) -> Result<usize, DictionaryFault>
-        ensures printed { Printed (S.Store.rows self.now.store) node out.old (answer_of result) out.new }
-        ensures step { PrintSteps (S.Store.rows self.now.store) node (answer_of result) out.new }
+    pub fn print(&self, node: u16, out: &mut [u8]) -> Result<usize, PrintFault>
+        ensures printed { Printed (S.Store.rows self.now.store) node out.old (print_answer result) out.new }
+        ensures step { PrintSteps (S.Store.rows self.now.store) node (print_answer result) out.new }
     {
         if node as usize >= self.store.count() {
-            return Err(DictionaryFault::Unknown);
+            return Err(PrintFault::Unknown);
         }
         match spend(&self.store, node, out.len().min(LONGEST)) {
             Some(_) => Ok(write(&self.store, node, out, 0)),
-            None => Err(DictionaryFault::Long),
+            None => Err(PrintFault::Long),
         }
     }
 }

@@ -1,6 +1,6 @@
 -- The text behind the head, if it fits.
 use Rattle.std.proofs.Common.{◌≡◌, ◌+◌, ◌≤◌, length, Err, sym, refl, ap, subst, arith, rules}
-use Rattle.calculator.specs.declared.fault.CalculatorFault.TheVariants.{Dictionary}
+use Rattle.calculator.specs.declared.fault.CalculatorFault.TheVariants.{Print}
 use Rattle.calculator.proofs.Numbers.{most_16}
 use Rattle.calculator.proofs.Values.{outcome_known, outcome_told, printed_bound, value_refused, value_written}
 use Rattle.calculator.proofs.calculator.Calculator.write_value.Goals as goal
@@ -20,15 +20,15 @@ slice_bounds-print-start g c = let m = most_16 c.args.node (search rules) in let
 pub returns-in_err-length : goal.returns-in_err-length
 returns-in_err-length g c k l =
     let m = most_16 c.args.node (search rules) in
-    let e : c.from_residual-in_err-length.result ≡ Err (Dictionary c.in_err-length.field-0.0) = search rules in
+    let e : c.from_residual-in_err-length.result ≡ Err (Print c.in_err-length.field-0.0) = search rules in
     value_refused (g.S.Store.rows c.args.self.now.dictionary.store) c.args.node l c.args.out.now c.requires (c.digits-start.result + 3) (omega (arith, c.digits-start.ensures)) c.in_ok-outcome.outcome (outcome_told (c.in_ok-outcome.ensures k)) (ap (λ z. z + 3) c.digits-start.ensures)
-    (Dictionary c.in_err-length.field-0.0) c.print.new.out c.from_residual-in_err-length.result e refl c.in_err-length.ensures
+    (Print c.in_err-length.field-0.0) c.print.new.out c.from_residual-in_err-length.result e refl c.in_err-length.ensures.printed
 
 pub overflow_add-result : goal.overflow_add-result
-overflow_add-result g c = let m = most_16 c.args.node (search rules) in let e = c.digits-start.ensures in let b = printed_bound c.in_ok-length.ensures.prints in search rules
+overflow_add-result g c = let m = most_16 c.args.node (search rules) in let e = c.digits-start.ensures in let b = printed_bound c.in_ok-length.ensures.printed.prints in search rules
 
 pub returns : goal.returns
 returns g c k l =
     let m = most_16 c.args.node (search rules) in
     value_written (g.S.Store.rows c.args.self.now.dictionary.store) c.args.node l c.args.out.now c.requires (c.digits-start.result + 3) (omega (arith, c.digits-start.ensures)) c.in_ok-outcome.outcome (outcome_told (c.in_ok-outcome.ensures k)) (ap (λ z. z + 3) c.digits-start.ensures)
-    c.in_ok-length.length c.print.new.out c.put_head.new.out c.in_ok-length.ensures c.put_head.ensures.written
+    c.in_ok-length.length c.print.new.out c.put_head.new.out c.in_ok-length.ensures.printed c.put_head.ensures.written

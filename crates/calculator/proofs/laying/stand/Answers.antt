@@ -2,7 +2,7 @@
 use Rattle.std.proofs.Common.{◌≡◌, Err, sym, subst, rules}
 use Rattle.calculator.specs.Laying.{Stood}
 use Rattle.calculator.proofs.Subjects.{stood_not, stood_illegal}
-use Rattle.calculator.proofs.boards.stand.Goals as goal
+use Rattle.calculator.proofs.laying.stand.Goals as goal
 
 pub returns-in_err-setup : goal.returns-in_err-setup
 returns-in_err-setup c j b x =

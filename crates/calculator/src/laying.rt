@@ -5,7 +5,7 @@ ghost use Rattle.lines.specs.Syntax.{Board as Written};
 ghost use Rattle.calculator.specs.Laying.{BothLegal, Laid, Permitted, Stood, StoodBoth};
 
 use crate::fault::CalculatorFault;
-use boards::setup::{Setup, set_up_toads};
+use boards::setup::{Setup, set_up_domineering, set_up_hackenbush, set_up_toads};
 use lines::question::{Board, Kind};
 use rulesets::ruleset::Ruleset;
 
@@ -15,9 +15,9 @@ pub fn lay(board: &Board<'_>) -> Result<Setup, CalculatorFault>
 {
     let items = board.items.bytes;
     let setup = match board.kind {
-        Kind::Domineering => set_up_toads(items),
+        Kind::Domineering => set_up_domineering(items),
         Kind::Toads => set_up_toads(items),
-        Kind::Hackenbush => set_up_toads(items),
+        Kind::Hackenbush => set_up_hackenbush(items),
     };
     match setup {
         Ok(setup) => Ok(setup),

@@ -2,7 +2,7 @@
 use Rattle.std.proofs.Common.{◌≡◌, Err, sym, subst, rules}
 use Rattle.calculator.specs.Laying.{BothLegal, StoodBoth}
 use Rattle.calculator.proofs.Subjects.{both_first, both_second, both_third, both_fourth}
-use Rattle.calculator.proofs.boards.stand_both.Goals as goal
+use Rattle.calculator.proofs.laying.stand_both.Goals as goal
 
 pub returns-in_err-left : goal.returns-in_err-left
 returns-in_err-left c =
