@@ -1,6 +1,6 @@
 -- What the bits and digits of a code say of a written board.
 -- Assumes nothing.
-use Rattle.std.proofs.Common.{◌≡◌, ℕ, zero, suc, ◌+◌, ◌-◌, ◌*◌, ◌/◌, ◌%◌, ◌^◌, ◌<◌, ◌≤◌, true, false, ◌&&◌, eqb, List, [], ◌∷◌, ◌++◌, length, Some, None, sym, refl, ap, ◌∙◌, subst, ap₂, suc-mul, zero-mul, arith}
+use Rattle.std.proofs.Common.{◌≡◌, ℕ, zero, suc, ◌+◌, ◌*◌, ◌/◌, ◌%◌, ◌<◌, eqb, List, [], ◌∷◌, ◌++◌, length, Some, refl, ap, ◌∙◌, suc-mul, zero-mul, arith}
 use Rattle.std.specs.List.{slice_get}
 use Rattle.std.proofs.lemmas.Bool.{and_parts, eqb-true}
 use Rattle.bits.specs.Bits.{bit}
@@ -8,9 +8,9 @@ use Rattle.bits.specs.Digits.{digit}
 use Rattle.bits.proofs.Words.{bit_first, bit_next, bit_none, bit_mask}
 use Rattle.bits.proofs.Digits.{digit_first, digit_next, digit_past}
 use Rattle.toads.specs.Cells.{digit_of}
-use Rattle.lines.specs.Syntax.{Items, Square, vacant, filled, Cell, toad, frog, blank}
+use Rattle.lines.specs.Syntax.{Square, vacant, filled, Cell, toad, frog, blank}
 use Rattle.boards.specs.Boards.{all, even, squares_of, square_bit, squares_code, held, cells_code}
-use Rattle.boards.specs.Laws.{is_filled, SquaresRead, square_in, RowsRead, cell_digit, CellsRead, EdgesStand}
+use Rattle.boards.specs.Laws.{is_filled, SquaresRead, RowsRead, CellsRead, EdgesStand}
 
 half : (s : Square) (n : ℕ) → (square_bit s + 2 * n) / 2 ≡ n
 half vacant n = omega arith

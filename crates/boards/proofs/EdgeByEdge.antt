@@ -1,6 +1,6 @@
 -- Written edges, read edge by edge: what is left after the last, or that they do not fit a picture.
 -- Assumes nothing.
-use Rattle.std.proofs.Common.{◌≡◌, ℕ, zero, suc, ◌+◌, ◌-◌, ◌*◌, ◌<◌, ◌≤◌, true, false, cond, ◌&&◌, eqb, ltb, leb, ◌⊎◌, List, [], ◌∷◌, ◌++◌, map, length, take, set, Some, None, Option, sym, refl, ap, ◌∙◌, subst, inl, inr, ⊎_elim, arith}
+use Rattle.std.proofs.Common.{◌≡◌, ℕ, ◌+◌, ◌-◌, ◌*◌, ◌<◌, ◌≤◌, true, ◌&&◌, eqb, ltb, leb, ◌⊎◌, List, [], ◌∷◌, ◌++◌, map, length, take, set, Some, None, Option, sym, refl, ap, ◌∙◌, subst, inl, inr, ⊎_elim, arith}
 use Rattle.std.proofs.lemmas.List.{append-nil, append_assoc, length-set, take_more_set}
 use Rattle.std.proofs.lemmas.Bool.{cond-true, cond-false, cond_both, lt-ltb, le-ltb, ltb-true, and_from, and_parts, cases_lt}
 use Rattle.hackenbush.specs.declared.edge.Edge.{Edge as Joint}
@@ -11,7 +11,7 @@ use Rattle.lines.specs.Syntax.{Items, Edge, Colour, for_left, for_right, for-bot
 use Rattle.boards.specs.declared.setup.edges.Edges.{Edges}
 use Rattle.boards.specs.Boards.{all, paint, joint}
 use Rattle.boards.specs.Stepping.{run}
-use Rattle.boards.specs.EdgesRead.{no_edges, digit_read, dash_read, colour_read, edge_step, edges_read}
+use Rattle.boards.specs.EdgesRead.{no_edges, dash_read, colour_read, edge_step, edges_read}
 use Rattle.boards.proofs.Running.{run_none, run_append}
 use Rattle.boards.proofs.Vertices.{with_number, vertex_low, vertex_high}
 

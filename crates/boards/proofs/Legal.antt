@@ -1,6 +1,6 @@
 -- The codes of written boards: below the limit, and legal where there is no edge to fall.
 -- Assumes nothing.
-use Rattle.std.proofs.Common.{◌≡◌, ℕ, suc, ◌+◌, ◌-◌, ◌*◌, ◌^◌, ◌<◌, Bool, true, false, cond, ◌&&◌, List, [], ◌∷◌, length, Some, None, Option, sym, refl, ap, ◌∙◌, subst, ap₂, pow-suc, arith}
+use Rattle.std.proofs.Common.{◌≡◌, ℕ, ◌*◌, ◌^◌, ◌<◌, Bool, true, false, cond, List, [], ◌∷◌, length, Some, None, sym, refl, ◌∙◌, subst, ap₂, pow-suc, arith}
 use Rattle.std.proofs.lemmas.Nat.{pow_pos}
 use Rattle.std.proofs.lemmas.Bool.{and_parts, lt-ltb}
 use Rattle.domineering.specs.Domineering.{sized as rows-sized}
@@ -8,7 +8,7 @@ use Rattle.toads.specs.Toads.{legal}
 use Rattle.toads.specs.Making.{sized as strip-sized}
 use Rattle.toads.proofs.Reading.{code_reads}
 use Rattle.hackenbush.specs.Hackenbush.{fits}
-use Rattle.lines.specs.Syntax.{Items, Square, Cell, toad, frog, blank, Board, domineering, toads, hackenbush}
+use Rattle.lines.specs.Syntax.{Items, Square, Cell, toad, frog, blank, domineering, toads, hackenbush}
 use Rattle.boards.specs.Boards.{Position, all, even, squares_of, squares_code, rows_fit, rows_position, cells_code, cells_position, joints, edges_position}
 use Rattle.boards.specs.Laws.{CodesBelow, RowsLegal, CellsLegal}
 use Rattle.boards.proofs.Squares.{code_below}

@@ -1,10 +1,10 @@
 -- The bytes of written rows, read one by one.
 -- Assumes nothing.
-use Rattle.std.proofs.Common.{◌≡◌, ℕ, zero, suc, ◌+◌, ◌-◌, ◌*◌, ◌^◌, ◌<◌, ◌≤◌, ltb, List, [], ◌∷◌, ◌++◌, length, Some, None, Option, sym, refl, ap, ◌∙◌, ap₂, ⊎_elim, pow-suc, arith}
+use Rattle.std.proofs.Common.{◌≡◌, ℕ, suc, ◌+◌, ◌*◌, ◌^◌, ◌<◌, ◌≤◌, ltb, List, [], ◌∷◌, ◌++◌, length, Some, None, Option, refl, ap, ◌∙◌, ap₂, ⊎_elim, pow-suc, arith}
 use lib.Bits.{bit_or}
-use Rattle.std.proofs.lemmas.Nat.{or_comm, or_shifted, pow-add, pow_pos}
+use Rattle.std.proofs.lemmas.Nat.{or_comm, or_shifted, pow-add}
 use Rattle.std.proofs.lemmas.Bool.{cond-true, cond-false, lt-ltb, le-ltb, cases_lt}
-use Rattle.lines.specs.Syntax.{Items, Square, vacant, filled, spell_square, spell_more}
+use Rattle.lines.specs.Syntax.{Square, vacant, filled, spell_square, spell_more}
 use Rattle.boards.specs.declared.setup.rows.Rows.{Rows}
 use Rattle.boards.specs.Boards.{square_bit, squares_code}
 use Rattle.boards.specs.Stepping.{run}

@@ -5,7 +5,7 @@ use Rattle.domineering.specs.Domineering.{domineering as domineering-rules}
 use Rattle.toads.specs.Toads.{toads as toads-rules}
 use Rattle.hackenbush.specs.declared.edge.Colour.TheVariants.{Left, Right}
 use Rattle.hackenbush.specs.Hackenbush.{hackenbush as hackenbush-rules}
-use Rattle.lines.specs.Syntax.{Items, Square, vacant, filled, toad, frog, blank, for_left, for_right, for-both, Board, domineering, toads, hackenbush, items_of}
+use Rattle.lines.specs.Syntax.{vacant, filled, toad, frog, blank, for_left, for_right, for-both, Board, domineering, toads, hackenbush, items_of}
 use Rattle.boards.specs.Boards.{Position, meaning}
 
 -- the board is written so, and stands for this position, or for none

@@ -1,7 +1,7 @@
 -- Parts written one behind the other, from the front of a buffer on.
 -- Assumes nothing.
-use Rattle.std.proofs.Common.{◌≡◌, ℕ, zero, suc, ◌+◌, ◌≤◌, List, [], ◌∷◌, ◌++◌, length, take, drop, sym, refl, ap, ◌∙◌, ap₂, zero-add, arith}
-use Rattle.std.proofs.lemmas.List.{append_assoc, length-append, length-take-le, drop_at}
+use Rattle.std.proofs.Common.{◌≡◌, ℕ, ◌+◌, ◌≤◌, List, ◌++◌, length, ap, ◌∙◌, zero-add, arith}
+use Rattle.std.proofs.lemmas.List.{append_assoc, length-append}
 use Rattle.dictionary.specs.Printing.{over}
 use Rattle.dictionary.proofs.Overwrites.{then_part}
 

@@ -1,6 +1,6 @@
 -- Replies, from what was entered and written.
 -- Assumes nothing.
-use Rattle.std.proofs.Common.{◌≡◌, ℕ, ◌+◌, ◌^◌, ◌<◌, ◌≤◌, true, false, cond, leb, List, [], ◌∷◌, ◌++◌, length, drop, is_some, Some, None, Ok, Err, Option, Result, sym, refl, ap, ◌∙◌, subst, subst₂, inl, inr, arith}
+use Rattle.std.proofs.Common.{◌≡◌, ℕ, ◌<◌, ◌≤◌, true, false, List, length, is_some, Some, None, Ok, Err, Option, Result, sym, refl, subst, subst₂, inl, inr, arith}
 use Rattle.std.proofs.lemmas.Bool.{both_ways, le-leb, lt-leb}
 use Rattle.games.specs.declared.outcome.Comparison.{Comparison}
 use Rattle.games.specs.declared.outcome.Comparison.TheVariants.{Less, Greater, Equal, Confused}
@@ -28,8 +28,7 @@ use Rattle.valuing.specs.declared.fault.ValueFault.TheVariants.{Illegal, Positio
 use Rattle.boards.specs.Boards.{Position, meaning}
 use Rattle.calculator.specs.Laying.{Stood}
 use Rattle.calculator.specs.declared.fault.CalculatorFault.{CalculatorFault}
-use Rattle.calculator.specs.Faults.{answer_of, number_of, place_of}
-use Rattle.calculator.specs.Replies
+use Rattle.calculator.specs.Faults.{number_of, place_of}
 use Rattle.calculator.specs.Replies.{Replies, comparison_text, move_text, fault_text, value_text, short, value_place, first_place, second_place, board_place}
 use Rattle.calculator.specs.Subjects.{at_place, from_place, is_legal, EntersSubject}
 use Rattle.calculator.proofs.Numbers.{most_64}

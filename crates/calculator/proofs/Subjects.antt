@@ -1,9 +1,9 @@
 -- Subjects of a line are entered, board by board.
 -- Assumes nothing.
-use Rattle.std.proofs.Common.{◌≡◌, ℕ, ◌+◌, ◌^◌, ◌<◌, Bool, true, false, cond, ◌⊎◌, List, [], ◌∷◌, ◌++◌, length, is_some, Some, None, Ok, Err, codes, Option, Result, sym, refl, ap, ◌∙◌, subst, subst₂, inl, inr, arith}
+use Rattle.std.proofs.Common.{◌≡◌, ℕ, ◌+◌, ◌^◌, ◌<◌, [], ◌∷◌, ◌++◌, length, Some, Ok, Err, codes, Result, sym, refl, ap, ◌∙◌, subst, subst₂, inl, inr, arith}
 use Rattle.std.proofs.lemmas.List.{length-append}
 use Rattle.calls.specs.Rows.{Rows}
-use Rattle.calls.specs.Answers.{Answer, told, refused, refused_at}
+use Rattle.calls.specs.Answers.{Answer, refused_at}
 use Rattle.sums.specs.Sums
 use Rattle.calls.specs.Reading.{Reads}
 use Rattle.games.specs.Form.{Form as Game}
@@ -13,15 +13,14 @@ use Rattle.lines.specs.Questions.{DescribesPart, DescribesBoard, DescribesConten
 use Rattle.lines.specs.declared.question.Part.{Part}
 use Rattle.lines.specs.declared.question.Board.{Board as BoardPart}
 use Rattle.lines.specs.declared.question.Content.TheVariants.{Plain, Minus, Sum, Form}
-use Rattle.boards.specs.Boards.{Position, meaning}
-use Rattle.boards.specs.AnyBoards.{any_rules, position}
+use Rattle.boards.specs.Boards.{Position}
+use Rattle.boards.specs.AnyBoards.{any_rules}
 use Rattle.boards.specs.declared.setup.Setup.{Setup}
 use Rattle.calculator.specs.declared.fault.CalculatorFault.{CalculatorFault}
-use Rattle.calculator.specs.declared.fault.CalculatorFault.TheVariants.{Illegal}
 use Rattle.calculator.specs.Entering.{ReadAt, ValuedAt}
 use Rattle.calculator.specs.Faults.{answer_of, number_of, place_of}
 use Rattle.calculator.specs.Laying.{Laid, Permitted, Stood, StoodBoth, RefusedBoth, first_size, second_size, first_position, second_position}
-use Rattle.calculator.specs.Subjects.{Placed, boards_of, first_oversized, first_illegal, is_legal, position_of, at_place, from_place, EntersSubject}
+use Rattle.calculator.specs.Subjects.{boards_of, position_of, from_place, EntersSubject}
 
 -- a board that is set up stands if its position is legal
 pub stood_not : (j : ℕ) (b : Board) (f : CalculatorFault) → Laid j b (Err f) → Stood j b (Err f)

@@ -1,6 +1,6 @@
 -- A node's text goes into what remains of the answer behind the head, or does not fit.
 -- Assumes nothing.
-use Rattle.std.proofs.Common.{◌≡◌, ℕ, ◌+◌, ◌-◌, ◌<◌, ◌≤◌, List, [], ◌∷◌, ◌++◌, length, take, drop, Ok, Err, Result, sym, refl, ap, ◌∙◌, subst, ap₂, inl, inr, arith}
+use Rattle.std.proofs.Common.{◌≡◌, ℕ, ◌+◌, ◌-◌, ◌<◌, ◌≤◌, List, [], ◌++◌, length, take, drop, Ok, Err, Result, sym, refl, ap, ◌∙◌, subst, ap₂, inl, inr, arith}
 use borrow.Rule.Slice.PartMut.{mid_of, post_of, put_mid, mid_len, put_same}
 use Rattle.std.proofs.lemmas.List.{append_assoc, drop-append-le, drop_at, drop-drop, length-append, length-take-le, take-append-drop}
 use Rattle.games.specs.declared.outcome.Outcome.{Outcome}
@@ -14,7 +14,7 @@ use Rattle.dictionary.specs.Printing.{Printed, over}
 use Rattle.calculator.specs.declared.fault.CalculatorFault.{CalculatorFault}
 use Rattle.calculator.specs.Faults.{number_of, place_of}
 use Rattle.calculator.specs.Replies.{head_text, value_text}
-use Rattle.calculator.specs.Written.{AtFront, WroteValue}
+use Rattle.calculator.specs.Written.{WroteValue}
 
 pub outcome_told : {rows : Rows} {n : ℕ} {o : Outcome} → TellsOutcome rows n (told o) → o ≡ outcome (node rows n)
 outcome_told (TellsOutcome.known h) = refl

@@ -1,6 +1,6 @@
 -- What the calculator writes for a line.
 -- Assumes nothing.
-use Rattle.std.specs.Prelude.{◌≡◌, ℕ, ◌+◌, ◌<◌, ◌≤◌, true, false, cond, List, [], ◌∷◌, ◌++◌, length, Some, None, codes, Option, nat_le}
+use Rattle.std.specs.Prelude.{◌≡◌, ℕ, ◌<◌, ◌≤◌, false, cond, List, [], ◌∷◌, ◌++◌, length, Some, None, codes, Option, nat_le}
 use Rattle.games.specs.declared.outcome.Comparison.{Comparison}
 use Rattle.games.specs.declared.outcome.Comparison.TheVariants.{Less, Greater, Equal, Confused}
 use Rattle.games.specs.declared.outcome.Outcome.{Outcome}
@@ -8,7 +8,7 @@ use Rattle.games.specs.declared.side.Side.{Side}
 use Rattle.games.specs.Outcomes.{compare, outcome, letter}
 use Rattle.games.specs.Text.{bytes}
 use Rattle.calls.specs.Rows.{Rows, node}
-use Rattle.calls.specs.Answers.{Answer, told, refused_at}
+use Rattle.calls.specs.Answers.{told, refused_at}
 use Rattle.calls.specs.Entering.{Entry}
 use Rattle.calls.specs.Positions.{FirstMoves}
 use Rattle.lines.specs.Syntax.{Board, Subject, Line, value, comparison, first_move, numeral, spell_subject, spell_side}

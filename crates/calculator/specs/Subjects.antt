@@ -1,6 +1,6 @@
 -- What valuing a subject of a line comes to.
 -- Assumes nothing.
-use Rattle.std.specs.Prelude.{◌≡◌, ℕ, ◌+◌, Bool, true, false, cond, List, [], ◌∷◌, ◌++◌, length, is_some, Some, None, codes, Option}
+use Rattle.std.specs.Prelude.{◌≡◌, ℕ, ◌+◌, Bool, false, cond, List, [], ◌∷◌, ◌++◌, length, is_some, Some, None, codes, Option}
 use Rattle.std.specs.Option.{option_map}
 use Rattle.games.specs.Text.{bytes}
 use Rattle.sums.specs.Sums

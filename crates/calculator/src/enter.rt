@@ -7,9 +7,9 @@ ghost use Rattle.calculator.specs.Entering.{ReadAt, ValuedAt};
 ghost use Rattle.calculator.specs.Faults.{answer_of};
 ghost use Rattle.calculator.specs.Subjects.{EntersSubject};
 
-use crate::laying::{stand, stand_both};
 use crate::calculator::Calculator;
 use crate::fault::CalculatorFault;
+use crate::laying::{stand, stand_both};
 use boards::sum::add;
 use lines::question::{Board, Content, Part, Subject};
 use reading::read::read;

@@ -1,7 +1,9 @@
 // The calculator: a line in, a line out.
-mod laying;
+#![tactic(auto)]
+
 pub mod calculator;
 mod enter;
 pub mod fault;
+mod laying;
 mod reply;
 mod writing;

@@ -7,9 +7,9 @@ ghost use Rattle.lines.specs.Syntax.{Board as Written, Subject as Named, compari
 ghost use Rattle.calculator.specs.Replies.{board_place, comparison_text, first_place, move_text, second_place, value_place};
 ghost use Rattle.calculator.specs.Written.{AtFront, Replied, WroteValue};
 
-use crate::laying::stand;
 use crate::calculator::Calculator;
 use crate::fault::CalculatorFault;
+use crate::laying::stand;
 use crate::writing::{digits, put_bytes, put_head, put_number};
 use games::outcome::Comparison;
 use games::side::Side;

@@ -1,4 +1,6 @@
 // A dictionary over each store: a few forms sealed from the nodes before them, their outcomes and texts, and how they compare.
+#![tactic(auto)]
+
 use dictionary::dictionary::Dictionary;
 use dictionary::fault::DictionaryFault;
 use games::outcome::Comparison;

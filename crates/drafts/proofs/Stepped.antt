@@ -13,7 +13,7 @@ use Rattle.calls.specs.Drafts.{Puts}
 use Rattle.calls.specs.Runs.{Past, Call, holding}
 use Rattle.drafts.specs.declared.draft.Draft.{Draft}
 use Rattle.drafts.specs.Holding.{Holds, PutsInto}
-use Rattle.drafts.specs.Steps.{Step, OpenSteps, PutSteps, AbandonSteps, SealSteps, SealingCallsStep}
+use Rattle.drafts.specs.Steps.{OpenSteps, PutSteps, AbandonSteps, SealSteps, SealingCallsStep}
 
 -- draft i has what was given to it
 given : (d : Draft) (p : Past) (i : ℕ) (l : Lists) (slips : ℕ) → Holds d l → Holds d ((holding p i l slips).drafts i)

@@ -1,5 +1,7 @@
 // Drafts over each store: forms put together number by number, sealed or abandoned. What was sealed is printed and read back,
 // and a position whose game was drafted is valued.
+#![tactic(auto)]
+
 use dictionary::dictionary::Dictionary;
 use domineering::board::Board;
 use drafts::draft::Draft;

@@ -1,6 +1,6 @@
 -- The check of a text goes on byte by byte.
 -- Assumes nothing.
-use Rattle.std.proofs.Common.{◌≡◌, ℕ, ◌+◌, ◌<◌, ◌≤◌, Bool, true, false, cond, eqb, List, [], ◌∷◌, ◌++◌, map, length, get_or, Some, None, sym, refl, ap, ◌∙◌, subst, arith}
+use Rattle.std.proofs.Common.{◌≡◌, ℕ, ◌+◌, ◌<◌, ◌≤◌, true, false, List, [], ◌∷◌, ◌++◌, length, get_or, Some, None, sym, refl, ap, ◌∙◌, subst, arith}
 use mathlib.Core.Option.{none}
 use native.Mathlib.Decide.{ℕ_discrete}
 use Rattle.std.proofs.lemmas.Bool.{ne_eqb}
@@ -16,7 +16,7 @@ use Rattle.reading.specs.declared.mark.Mark.{Mark}
 use Rattle.reading.specs.declared.mark.Mark.TheVariants.{Open, Bar, Close, Comma}
 use Rattle.reading.specs.declared.reader.Reader.{Reader}
 use Rattle.reading.specs.Marks.{meant, mark_of}
-use Rattle.reading.specs.Standing.{Stands, stage_of, is_done}
+use Rattle.reading.specs.Standing.{Stands, is_done}
 use Rattle.reading.proofs.Marked.{depth_is}
 
 -- what `mark_of` says

@@ -1,6 +1,6 @@
 -- Numbers written down, of which no more than 17 are kept: a row that has them is found all the same.
 -- Assumes nothing.
-use Rattle.std.proofs.Common.{◌≡◌, ℕ, ◌+◌, ◌<◌, ◌≤◌, ◌⊎◌, List, [], ◌∷◌, ◌++◌, length, take, set, None, sym, refl, ap, ◌∙◌, subst, ap₂, inl, inr, arith}
+use Rattle.std.proofs.Common.{◌≡◌, ℕ, ◌+◌, ◌<◌, ◌≤◌, List, [], ◌∷◌, ◌++◌, length, take, set, None, sym, ap, ◌∙◌, subst, ap₂, arith}
 use native.Mathlib.Decide.{dec_le}
 use Rattle.std.proofs.lemmas.List.{length-take, length-append, take_all, take-take, take-append-le, take_more_set}
 use Rattle.games.specs.declared.side.Side.{Side}

@@ -1,6 +1,6 @@
 -- The frames follow the marks of a form's text.
 -- Assumes nothing.
-use Rattle.std.proofs.Common.{◌≡◌, ℕ, ◌+◌, ◌-◌, ◌<◌, List, [], ◌∷◌, length, sym, refl, ap, ◌∙◌, subst, arith}
+use Rattle.std.proofs.Common.{◌≡◌, ℕ, ◌+◌, ◌-◌, List, [], ◌∷◌, length, sym, refl, ap, ◌∙◌, subst, arith}
 use Rattle.games.specs.Form.{Form, Forms, ∅}
 use Rattle.games.specs.Numbered.{Lists}
 use Rattle.games.specs.Text.{open-mark, bar, close-mark, comma}

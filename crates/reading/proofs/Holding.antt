@@ -11,7 +11,7 @@ use Rattle.calls.proofs.Bracketed.{brackets, put_number, put_outside}
 use Rattle.reading.specs.declared.frames.Frame.{Frame}
 use Rattle.reading.specs.Held.{Held, Holds}
 use Rattle.reading.specs.Sided.{with_number}
-use Rattle.reading.specs.Standing.{side_of, stacked}
+use Rattle.reading.specs.Standing.{stacked}
 use Rattle.reading.proofs.Stacks.{stacked_push, stacked_top, stacked_put}
 
 module _ {A : Type 0} (keeps : A → Lists → Type 0) (items : List (Frame A)) (n : ℕ) where

@@ -1,17 +1,17 @@
 -- The reader of the code takes a mark as the machine does.
 -- Assumes nothing.
-use Rattle.std.proofs.Common.{◌≡◌, ℕ, suc, ◌+◌, ◌-◌, ◌<◌, ◌≤◌, ◌⊎◌, List, [], ◌∷◌, map, length, get_or, set, Some, None, sym, refl, ap, ◌∙◌, subst, ap₂, inl, inr, arith}
+use Rattle.std.proofs.Common.{◌≡◌, ℕ, ◌+◌, ◌-◌, ◌<◌, ◌≤◌, ◌⊎◌, List, [], ◌∷◌, map, length, get_or, set, Some, sym, refl, ap, ◌∙◌, inl, inr, arith}
 use Rattle.std.proofs.lemmas.List.{length-map}
-use Rattle.games.specs.Form.{Form, Forms, form, ∅}
+use Rattle.games.specs.Form.{Form, form}
 use Rattle.games.specs.declared.side.Side.{Side}
 use Rattle.games.specs.declared.side.Side.TheVariants.{Left, Right}
-use Rattle.games.specs.Text.{open-mark, bar, close-mark, comma}
+use Rattle.games.specs.Text.{open-mark, bar, close-mark}
 use Rattle.games.proofs.Reader.{Bracket, in_left, in_right, State, wants, fresh, after, done, wrong, put, finish, next}
 use Rattle.calls.proofs.Bracketed.{brackets}
 use Rattle.calls.proofs.Texts.{Alive}
 use Rattle.reading.specs.declared.reader.Stage.{Stage}
 use Rattle.reading.specs.declared.reader.Stage.TheVariants.{Wants, Fresh, After, Done}
-use Rattle.reading.specs.Standing.{stacked, side_of, stage_of, StandsAt, list_ending}
+use Rattle.reading.specs.Standing.{stacked, side_of, StandsAt, list_ending}
 use Rattle.reading.proofs.Stacks.{stacked_length, stacked_push, stacked_top, stacked_put}
 
 module _ (stage : Stage) (sides : List Side) (depth : ℕ) (room : depth ≤ length sides) where

@@ -4,10 +4,10 @@ use Rattle.std.proofs.Common.{◌≡◌, ℕ, ◌+◌, ◌-◌, ◌<◌, ◌≤�
 use Rattle.games.specs.Form.{Form, Forms, ∅}
 use Rattle.games.specs.Numbered.{Lists}
 use Rattle.games.specs.Text.{open-mark, bar, close-mark, comma, text, bytes}
-use Rattle.games.proofs.Reader.{Bracket, in_left, in_right, State, wants, done, finish, next}
+use Rattle.games.proofs.Reader.{Bracket, in_left, in_right, State, done, finish, next}
 use Rattle.nodesets.specs.declared.pair.Pair.{Pair}
 use Rattle.stores.specs.Rows.{Lawful}
-use Rattle.calls.specs.Answers.{told, refused, refused_at}
+use Rattle.calls.specs.Answers.{told, refused_at}
 use Rattle.calls.specs.Entering.{Entry, entry, Enters}
 use Rattle.calls.specs.Reading.{Reads}
 use Rattle.calls.specs.Rows.{Rows, no_numbers, first}
@@ -29,7 +29,7 @@ use Rattle.reading.specs.Held.{Holds, stack_of}
 use Rattle.reading.specs.Sealed.{Closed, InSets}
 use Rattle.reading.specs.TextRead.{ReadsBack, TextRead}
 use Rattle.reading.proofs.Framed.{Follow, Counted, Inner, inner, follow_none, follow_open, count_open, follow_bar, count_bar, follow_comma, count_comma, follow_close, count_close}
-use Rattle.reading.proofs.Upto.{upto, There, shut, not_open, not_bar, not_comma, finish_last, upto_end, length_upto}
+use Rattle.reading.proofs.Upto.{upto, There, shut, not_open, not_bar, not_comma, finish_last, upto_end}
 
 -- the number told is a node's
 seals_inside : {c n : ℕ} {a b : Rows} {l : Lists} → SealsNumbers c a l (told n) b → n < length b

@@ -1,4 +1,6 @@
 // Texts over each store: what is wrong with a text, what it is read as, and what is found in a frozen dictionary.
+#![tactic(auto)]
+
 use dictionary::dictionary::Dictionary;
 use dictionary::frozen::Frozen;
 use hashed_store::table::HashTable;

@@ -1,4 +1,6 @@
 // Positions of every board, a minus and sums, valued in one dictionary over each store: the node of each, and its outcome.
+#![tactic(auto)]
+
 use dictionary::dictionary::Dictionary;
 use domineering::board::Board;
 use games::side::Side;

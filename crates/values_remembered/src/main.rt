@@ -1,4 +1,6 @@
 // Positions of every board, a minus and sums, valued with a memory in one dictionary over each store: the node of each, its outcome, and the text of its canonical form.
+#![tactic(auto)]
+
 use dictionary::dictionary::Dictionary;
 use domineering::board::Board;
 use games::side::Side;

@@ -1,5 +1,5 @@
 -- The last digit behind those of a tenth of the number.
-use Rattle.std.proofs.Common.{◌≡◌, ◌+◌, ◌/◌, ◌%◌, [], ◌∷◌, length, sym, ap, ◌∙◌, arith, rules}
+use Rattle.std.proofs.Common.{◌+◌, ◌/◌, ◌%◌, length, sym, ap, ◌∙◌, arith, rules}
 use Rattle.dictionary.specs.Printing.{over}
 use Rattle.dictionary.proofs.Overwrites.{over_one, then_byte}
 use Rattle.lines.specs.Syntax.{numeral}

@@ -1,5 +1,5 @@
 -- Four parts, one behind the other.
-use Rattle.std.proofs.Common.{◌≡◌, ◌+◌, ◌≤◌, ◌++◌, length, codes, ap, ◌∙◌, arith, rules}
+use Rattle.std.proofs.Common.{◌≡◌, ◌++◌, length, codes, ap, ◌∙◌, arith, rules}
 use Rattle.lines.specs.Syntax.{numeral}
 use Rattle.dictionary.specs.Printing.{over}
 use Rattle.calculator.specs.Faults.{number_of, place_of}

@@ -1,5 +1,5 @@
 -- The number, and behind it the letter between spaces.
-use Rattle.std.proofs.Common.{◌≡◌, List, [], ◌∷◌, ◌++◌, length, sym, ap, ◌∙◌, zero-add, arith, rules}
+use Rattle.std.proofs.Common.{◌≡◌, [], ◌∷◌, ◌++◌, length, ap, ◌∙◌, zero-add, arith, rules}
 use Rattle.games.specs.Outcomes.{letter}
 use Rattle.lines.specs.Syntax.{numeral}
 use Rattle.dictionary.specs.Printing.{over}

@@ -1,5 +1,5 @@
 -- The innermost bracket's numbers are sealed, and the number told is put outside.
-use Rattle.std.proofs.Common.{◌≡◌, ◌<◌, ◌∙◌, subst, arith, rules}
+use Rattle.std.proofs.Common.{rules}
 use Rattle.reading.proofs.Turned.{closes_told}
 use Rattle.reading.proofs.read.close.Goals as goal
 

@@ -1,15 +1,12 @@
 -- The text is checked, and then its marks are taken in turn.
-use Rattle.std.proofs.Common.{◌≡◌, ℕ, ◌+◌, Some, Ok, Err, sym, refl, ap, ◌∙◌, subst, arith, rules}
-use Rattle.games.specs.Form.{Form}
-use Rattle.calls.specs.Texts.{Written}
+use Rattle.std.proofs.Common.{◌≡◌, ℕ, ◌+◌, Ok, Err, refl, ◌∙◌, subst, arith, rules}
 use Rattle.dictionary.specs.declared.dictionary.Dictionary.{Dictionary}
 use Rattle.dictionary.specs.Kept.{Kept}
 use Rattle.dictionary.proofs.Soundness.{kept_sound}
 use Rattle.reading.specs.declared.fault.ReadFault.TheVariants.{Text, Bracket}
 use Rattle.nodesets.specs.declared.pair.Pair.{Pair}
 use Rattle.reading.specs.declared.frames.Frames.{Frames}
-use Rattle.reading.specs.declared.mark.Mark.TheVariants.{Open, Bar, Close, Comma}
-use Rattle.reading.specs.Marks.{meant, mark_of}
+use Rattle.reading.specs.Marks.{meant}
 use Rattle.reading.proofs.Turned.{Turn, begins, turn_open, turn_bar, turn_comma, turn_close, turn_refused, read_whole, read_part, read_faulty, reads_back, joined}
 use Rattle.reading.proofs.Upto.{There, there, some_mark, some_room, some_bar, some_close, length_upto}
 use Rattle.reading.proofs.read.read.Goals as goal

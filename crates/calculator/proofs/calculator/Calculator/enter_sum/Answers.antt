@@ -1,5 +1,5 @@
 -- Both boards of the sum.
-use Rattle.std.proofs.Common.{◌≡◌, ◌+◌, ◌*◌, ◌^◌, ◌<◌, Err, sym, refl, ap, subst, subst₂, arith, rules}
+use Rattle.std.proofs.Common.{◌≡◌, ◌+◌, ◌*◌, ◌^◌, ◌<◌, Err, refl, subst, subst₂, rules}
 use Rattle.sums.specs.Sums
 use Rattle.boards.specs.AnyBoards.{any_rules}
 use Rattle.calculator.specs.Entering.{ValuedAt}

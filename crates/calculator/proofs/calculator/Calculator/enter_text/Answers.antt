@@ -1,5 +1,5 @@
 -- A fault in a text is at its own place, and places do not pass the text's end.
-use Rattle.std.proofs.Common.{◌≡◌, ◌+◌, sym, refl, ap, arith, rules}
+use Rattle.std.proofs.Common.{◌≡◌, ◌+◌, ap, arith}
 use Rattle.calls.specs.Answers.{refused_at}
 use Rattle.reading.specs.Faults.{read_number, read_place}
 use Rattle.calculator.proofs.Places.{reads_bound}

@@ -1,5 +1,5 @@
 -- Both are entered, one after the other, and compared.
-use Rattle.std.proofs.Common.{◌≡◌, ℕ, Err, sym, refl, ◌∙◌, subst, rules}
+use Rattle.std.proofs.Common.{◌≡◌, ℕ, Err, refl, ◌∙◌, subst, rules}
 use Rattle.calls.specs.Answers.{told}
 use Rattle.lines.specs.Syntax.{comparison}
 use Rattle.calculator.specs.Faults.{answer_of}

@@ -1,5 +1,5 @@
 -- The board is set up, and its first moves are tried.
-use Rattle.std.proofs.Common.{◌≡◌, Err, sym, refl, ◌∙◌, subst, rules}
+use Rattle.std.proofs.Common.{◌≡◌, Err, refl, rules}
 use Rattle.lines.specs.Syntax.{first_move}
 use Rattle.boards.specs.AnyBoards.{position}
 use Rattle.boards.specs.Fitting.{any_lawful}

@@ -1,5 +1,5 @@
 -- The subject is entered, and its value is written.
-use Rattle.std.proofs.Common.{◌≡◌, Err, refl, ◌∙◌, rules}
+use Rattle.std.proofs.Common.{◌≡◌, Err, refl, rules}
 use Rattle.lines.specs.Syntax.{value}
 use Rattle.calculator.specs.Replies
 use Rattle.calculator.specs.Replies.{value_place}

@@ -1,5 +1,5 @@
 -- The text behind the head, if it fits.
-use Rattle.std.proofs.Common.{◌≡◌, ◌+◌, ◌≤◌, length, Err, sym, refl, ap, subst, arith, rules}
+use Rattle.std.proofs.Common.{◌≡◌, ◌+◌, Err, refl, ap, arith, rules}
 use Rattle.calculator.specs.declared.fault.CalculatorFault.TheVariants.{Print}
 use Rattle.calculator.proofs.Numbers.{most_16}
 use Rattle.calculator.proofs.Values.{outcome_known, outcome_told, printed_bound, value_refused, value_written}

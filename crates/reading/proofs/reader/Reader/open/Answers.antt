@@ -1,5 +1,5 @@
 -- A bracket more, unless it is the 97th.
-use Rattle.std.proofs.Common.{arith, rules}
+use Rattle.std.proofs.Common.{arith}
 use Rattle.reading.proofs.Marked.{opens, opens_deep}
 use Rattle.reading.proofs.reader.Reader.open.Goals as goal
 

@@ -1,5 +1,5 @@
 -- Each turn takes one byte more.
-use Rattle.std.proofs.Common.{Some, sym, ap, ◌∙◌, arith}
+use Rattle.std.proofs.Common.{Some, sym, ◌∙◌, arith}
 use Rattle.boards.specs.EdgesRead.{no_edges, edge_step}
 use Rattle.boards.proofs.Running.{run_more, run_stops, run_ends}
 use Rattle.boards.proofs.setup.edges.Edges.read.Goals as goal
