@@ -1,23 +1,28 @@
 // A slip: whoever has one has a draft open, and has to seal or abandon it.
+ghost use Rattle.std.specs.Prelude.{◌≡◌, false, IsTrue};
 
-// Handed out when a draft is opened. It is never dropped: seal or abandon takes it.
-pub struct Slip(());
+// Handed out when a draft is opened. It is never let go unspent: seal or abandon takes it.
+pub struct Slip {
+    spent: bool,
+}
 
 impl Drop for Slip {
-    // Nobody can meet this: a slip that goes out of use is refused by the check.
+    // Nobody who was handed a slip can meet this: one that goes out of use is refused by the check.
     fn drop(self)
-        requires { ⊥ }
+        requires { IsTrue self.spent }
     {
-        let Slip(_) = self;
+        let Slip { spent: _ } = self;
     }
 }
 
 impl Slip {
-    pub(crate) fn new() -> Slip {
-        Slip(())
+    pub(crate) fn new() -> Slip
+        ensures { result.spent ≡ false }
+    {
+        Slip { spent: false }
     }
 
     pub(crate) fn spend(self) {
-        let Slip(_) = self;
+        let Slip { spent: _ } = self;
     }
 }
