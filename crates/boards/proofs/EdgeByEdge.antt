@@ -7,7 +7,7 @@ use Rattle.hackenbush.specs.declared.edge.Edge.{Edge as Joint}
 use Rattle.hackenbush.specs.declared.edge.Colour.{Colour as Paint}
 use Rattle.hackenbush.specs.declared.edge.Colour.TheVariants.{Left, Right, Both}
 use Rattle.hackenbush.specs.Hackenbush.{near}
-use Rattle.lines.specs.Syntax.{Items, Edge, Colour, for_left, for_right, for-both, hackenbush, numeral, spell_colour, spell_edge, spell_more, items_of}
+use Rattle.lines.specs.Syntax.{Items, Edge, Colour, for_left, for_right, for_both, hackenbush, numeral, spell_colour, spell_edge, spell_more, items_of}
 use Rattle.boards.specs.declared.setup.edges.Edges.{Edges}
 use Rattle.boards.specs.Boards.{all, paint, joint}
 use Rattle.boards.specs.Stepping.{run}
@@ -31,12 +31,12 @@ drawn s c = record { from = s.from; to = s.number; colour = paint c }
 colour_low : (s : Edges) (c : Colour) → s.count < 24 → run edge_step (Some s) (spell_colour c) ≡ Some (push s (drawn s c))
 colour_low s for_left h = cond-true (ltb s.count 24) (Some (push s (drawn s for_left))) None (lt-ltb _ _ h)
 colour_low s for_right h = cond-true (ltb s.count 24) (Some (push s (drawn s for_right))) None (lt-ltb _ _ h)
-colour_low s for-both h = cond-true (ltb s.count 24) (Some (push s (drawn s for-both))) None (lt-ltb _ _ h)
+colour_low s for_both h = cond-true (ltb s.count 24) (Some (push s (drawn s for_both))) None (lt-ltb _ _ h)
 
 colour_none : (s : Edges) (c : Colour) → 24 ≤ s.count → run edge_step (Some s) (spell_colour c) ≡ None
 colour_none s for_left h = cond-false (ltb s.count 24) (Some (push s (drawn s for_left))) None (le-ltb _ _ h)
 colour_none s for_right h = cond-false (ltb s.count 24) (Some (push s (drawn s for_right))) None (le-ltb _ _ h)
-colour_none s for-both h = cond-false (ltb s.count 24) (Some (push s (drawn s for-both))) None (le-ltb _ _ h)
+colour_none s for_both h = cond-false (ltb s.count 24) (Some (push s (drawn s for_both))) None (le-ltb _ _ h)
 
 module _ (s : Edges) (ready : Ready s) (e : Edge) where
   -- the bytes after the first vertex, and the states at the second and after it

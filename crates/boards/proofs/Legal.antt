@@ -3,9 +3,9 @@
 use Rattle.std.proofs.Common.{◌≡◌, ℕ, ◌*◌, ◌^◌, ◌<◌, Bool, true, false, cond, List, [], ◌∷◌, length, Some, None, sym, refl, ◌∙◌, subst, ap₂, pow-suc, arith}
 use Rattle.std.proofs.lemmas.Nat.{pow_pos}
 use Rattle.std.proofs.lemmas.Bool.{and_parts, lt-ltb}
-use Rattle.domineering.specs.Domineering.{sized as rows-sized}
+use Rattle.domineering.specs.Domineering.{sized as rows_sized}
 use Rattle.toads.specs.Toads.{legal}
-use Rattle.toads.specs.Making.{sized as strip-sized}
+use Rattle.toads.specs.Making.{sized as strip_sized}
 use Rattle.toads.proofs.Reading.{code_reads}
 use Rattle.hackenbush.specs.Hackenbush.{fits}
 use Rattle.lines.specs.Syntax.{Items, Square, Cell, toad, frog, blank, domineering, toads, hackenbush}
@@ -22,7 +22,7 @@ meant false q p e = let z : ◌≡◌ {A = ℕ} 0 1 = cc in absurd (omega arith)
 
 rows_below : (rows : Items (Items Square)) → rows_fit rows ≡ true → squares_code (squares_of (all rows)) < 2 ^ (length (all rows) * long rows.first)
 rows_below rows f =
-    let e = (and_parts (even (long rows.first) (all rows)) (rows-sized (length (all rows)) (long rows.first)) f).0 in
+    let e = (and_parts (even (long rows.first) (all rows)) (rows_sized (length (all rows)) (long rows.first)) f).0 in
     subst (λ n. squares_code (squares_of (all rows)) < 2 ^ n) (even_count (long rows.first) (all rows) e) (code_below (squares_of (all rows)))
 
 cells_below : (cells : List Cell) → cells_code cells < 4 ^ length cells
@@ -36,7 +36,7 @@ codes_below (domineering rows) p e =
     let m = meant (rows_fit rows) (rows_position rows) p e in
     subst (λ q. q.code < q.rules.limit) m.1 (rows_below rows m.0)
 codes_below (toads cells) p e =
-    subst (λ q. q.code < q.rules.limit) (meant (strip-sized (length (all cells))) (cells_position cells) p e).1 (cells_below (all cells))
+    subst (λ q. q.code < q.rules.limit) (meant (strip_sized (length (all cells))) (cells_position cells) p e).1 (cells_below (all cells))
 codes_below (hackenbush edges) p e =
     let k = pow_pos (length (joints edges)) in
     let l : (edges_position edges).code < (edges_position edges).rules.limit = omega arith in
@@ -50,5 +50,5 @@ rows_legal rows p e =
 pub cells_legal : CellsLegal
 cells_legal cells p e =
     let r = (code_reads (spelt (all cells)) (all_right (all cells))).0 in
-    subst (λ q. q.rules.legal q.code ≡ true) (meant (strip-sized (length (all cells))) (cells_position cells) p e).1
+    subst (λ q. q.rules.legal q.code ≡ true) (meant (strip_sized (length (all cells))) (cells_position cells) p e).1
     (ap₂ legal (sym (as_many (all cells))) (sym (same_code (all cells))) ∙ r)

@@ -5,7 +5,7 @@ use Rattle.std.proofs.lemmas.List.{length-map}
 use Rattle.std.proofs.lemmas.Bool.{cond-true, cond-false, cases_Bool, and_parts}
 use Rattle.rulesets.specs.Rules.{Rules}
 use Rattle.bits.proofs.Words.{one_shl_64}
-use Rattle.hackenbush.specs.Hackenbush.{hackenbush as hackenbush-rules, fits, near}
+use Rattle.hackenbush.specs.Hackenbush.{hackenbush as hackenbush_rules, fits, near}
 use Rattle.hackenbush.specs.Reading.{fits_length}
 use Rattle.lines.specs.Syntax.{Items, Edge, hackenbush, items_of}
 use Rattle.boards.specs.declared.setup.edges.Edges.{Edges}
@@ -44,10 +44,10 @@ module _ (text : List ℕ) (edges : Items Edge) (e : text ≡ items_of (hackenbu
     code_is = ap (λ n. n - 1) (one_shl_64 t.count (omega (arith, (edges_within text t r).0))) ∙ ap (λ n. 2 ^ n - 1) count_is
 
     -- the edges that were read make a picture, or do not
-    pub picture_set : (R : Rules) → fits (take (t.count - 0) t.edges) ≡ true → R ≡ hackenbush-rules (take (t.count - 0) t.edges) → meaning (hackenbush edges) ≡ at_code R (1 * 2 ^ t.count % 18446744073709551616 - 1)
+    pub picture_set : (R : Rules) → fits (take (t.count - 0) t.edges) ≡ true → R ≡ hackenbush_rules (take (t.count - 0) t.edges) → meaning (hackenbush edges) ≡ at_code R (1 * 2 ^ t.count % 18446744073709551616 - 1)
     picture_set R f p =
         cond-true (fits (joints edges)) (Some (edges_position edges)) None (ap fits (sym joints_are) ∙ f)
-        ∙ same_position (sym (p ∙ ap hackenbush-rules joints_are)) (sym code_is)
+        ∙ same_position (sym (p ∙ ap hackenbush_rules joints_are)) (sym code_is)
 
     pub picture_refused : fits (take (t.count - 0) t.edges) ≡ false → meaning (hackenbush edges) ≡ None
     picture_refused f = cond-false (fits (joints edges)) (Some (edges_position edges)) None (ap fits (sym joints_are) ∙ f)

@@ -60,12 +60,12 @@ module _ (s : Rows) (ready : Ready s) (row : Items Square) where
       ∙ ap (λ (n : ℕ). Some (record { columns = n; start = finished.squares; squares = finished.squares; code = finished.code })) along
 
   row_uneven : (Suits s (long row) → ⊥) → ended finished ≡ None
-  row_uneven no-fit =
+  row_uneven no_fit =
       cond-false (ltb finished.start finished.squares && (eqb finished.columns 0 || eqb (finished.squares - finished.start) finished.columns)) new_row None
       (and_right (ltb finished.start finished.squares) _
       (or_from (eqb finished.columns 0) _
-      (ne_eqb _ _ (λ z. no-fit (inl z)))
-      (ne_eqb _ _ (λ e. no-fit (inr (sym e ∙ along))))))
+      (ne_eqb _ _ (λ z. no_fit (inl z)))
+      (ne_eqb _ _ (λ e. no_fit (inr (sym e ∙ along))))))
 
   next_ready : s.squares + long row ≤ 30 → Ready (next s row)
   next_ready h = record {
@@ -136,9 +136,9 @@ module _ (s : Rows) (row : Items Square) (rows : List (Items Square)) where
   too_long h c v e = let m = length-append (all row) (squares_of rows) in omega arith
 
   uneven : (Suits s (long row) → ⊥) → Outcome s (row ∷ rows) None
-  uneven no-fit c v e =
+  uneven no_fit c v e =
       let n = eqb-true (long row) c (and_parts (eqb (long row) c) (even c rows) e).0 in
-      absurd (no-fit (⊎_elim (λ z. inl z) (λ k. inr (k ∙ sym n)) v))
+      absurd (no_fit (⊎_elim (λ z. inl z) (λ k. inr (k ∙ sym n)) v))
 
 -- the bytes after the first row
 abbrev rest_of : List (Items Square) → List ℕ
@@ -165,17 +165,17 @@ module _ (s : Rows) (ready : Ready s) (row : Items Square) (rows : List (Items S
 rows_run : (s : Rows) → Ready s → (row : Items Square) (rows : List (Items Square)) → Outcome s (row ∷ rows) (last_ended (run row_step (Some s) (spelt (all row) ++ rest_of rows)))
 rows_run s ready row [] = first_row s ready row [] [] (λ h. ⊎_elim
     (λ u. subst (λ q. Outcome s (row ∷ []) q) (sym (row_ends s ready row u)) (outcome_more s row [] (Some (next s row)) u (outcome_none (next s row))))
-    (λ no-fit. subst (λ q. Outcome s (row ∷ []) q) (sym (row_uneven s ready row no-fit)) (uneven s row [] no-fit))
+    (λ no_fit. subst (λ q. Outcome s (row ∷ []) q) (sym (row_uneven s ready row no_fit)) (uneven s row [] no_fit))
     (suits_or_not s (long row)))
 rows_run s ready row (second ∷ rows) = first_row s ready row (second ∷ rows) (rest_of (second ∷ rows)) (λ h. ⊎_elim
     (λ u.
     let e : run row_step (Some (after s (all row))) (rest_of (second ∷ rows)) ≡ run row_step (Some (next s row)) (spelt (all second) ++ rest_of rows) =
     ap (λ q. run row_step q (spelt (all second) ++ rest_of rows)) (row_ends s ready row u) in
     subst (λ q. Outcome s (row ∷ second ∷ rows) (last_ended q)) (sym e) (outcome_more s row (second ∷ rows) _ u (rows_run (next s row) (next_ready s ready row h) second rows)))
-    (λ no-fit.
+    (λ no_fit.
     let e : run row_step (Some (after s (all row))) (rest_of (second ∷ rows)) ≡ None =
-    ap (λ q. run row_step q (spelt (all second) ++ rest_of rows)) (row_uneven s ready row no-fit) ∙ run_none row_step (spelt (all second) ++ rest_of rows) in
-    subst (λ q. Outcome s (row ∷ second ∷ rows) (last_ended q)) (sym e) (uneven s row (second ∷ rows) no-fit))
+    ap (λ q. run row_step q (spelt (all second) ++ rest_of rows)) (row_uneven s ready row no_fit) ∙ run_none row_step (spelt (all second) ++ rest_of rows) in
+    subst (λ q. Outcome s (row ∷ second ∷ rows) (last_ended q)) (sym e) (uneven s row (second ∷ rows) no_fit))
     (suits_or_not s (long row)))
 
 -- all the rows of a board

@@ -4,7 +4,7 @@ use Rattle.std.proofs.Common.{◌≡◌, ℕ, suc, ◌+◌, ◌*◌, true, List,
 use Rattle.std.specs.Option.{option_map}
 use Rattle.std.proofs.lemmas.Bool.{cond-true, cond-false}
 use Rattle.rulesets.specs.Rules.{Rules}
-use Rattle.toads.specs.Toads.{toads as toads-rules}
+use Rattle.toads.specs.Toads.{toads as toads_rules}
 use Rattle.toads.specs.Making.{sized}
 use Rattle.toads.specs.Strips.{first_wrong, code_of, Read}
 use Rattle.toads.specs.declared.text.TextFault.{TextFault}
@@ -44,10 +44,10 @@ module _ (text : List ℕ) (cells : Items Cell) (e : text ≡ items_of (toads ce
   cells_are = ap length e ∙ as_many (all cells)
 
   -- a strip that was read, and one whose size was refused
-  pub strip_read : (R : Rules) (n : ℕ) → sized (length text) ≡ true → R ≡ toads-rules (length text) → n ≡ code_of text → meaning (toads cells) ≡ at_code R n
+  pub strip_read : (R : Rules) (n : ℕ) → sized (length text) ≡ true → R ≡ toads_rules (length text) → n ≡ code_of text → meaning (toads cells) ≡ at_code R n
   strip_read R n s r c =
       cond-true (sized (length (all cells))) (Some (cells_position cells)) None (ap sized (sym cells_are) ∙ s)
-      ∙ same_position (ap toads-rules (sym cells_are) ∙ sym r) (sym (same_code (all cells)) ∙ ap code_of (sym e) ∙ sym c)
+      ∙ same_position (ap toads_rules (sym cells_are) ∙ sym r) (sym (same_code (all cells)) ∙ ap code_of (sym e) ∙ sym c)
 
   pub strip_refused : (f : TextFault) → Read text (Err f) → meaning (toads cells) ≡ None
   strip_refused (Character i) h =

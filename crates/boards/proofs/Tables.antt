@@ -4,7 +4,7 @@ use Rattle.std.proofs.Common.{◌≡◌, ℕ, ◌+◌, ◌-◌, ◌*◌, ◌/◌
 use Rattle.std.proofs.lemmas.Nat.{div-mul-add}
 use Rattle.std.proofs.lemmas.Bool.{cond-true, cond-false, cases_Bool, ltb-true, eqb-true, and_from, and_parts, and_right}
 use Rattle.rulesets.specs.Rules.{Rules}
-use Rattle.domineering.specs.Domineering.{domineering as domineering-rules, sized}
+use Rattle.domineering.specs.Domineering.{domineering as domineering_rules, sized}
 use Rattle.domineering.specs.Size.{cells_high}
 use Rattle.lines.specs.Syntax.{Items, Square, domineering, items_of}
 use Rattle.boards.specs.declared.setup.rows.Rows.{Rows}
@@ -76,11 +76,11 @@ module _ (text : List ℕ) (rows : Items (Items Square)) (e : text ≡ items_of 
     size_is : sized (t.squares / t.columns) t.columns ≡ sized (length (all rows)) (long rows.first)
     size_is = ap₂ sized rows_are (sym columns_are)
 
-    pub board_set : (R : Rules) → sized (t.squares / t.columns) t.columns ≡ true → R ≡ domineering-rules (t.squares / t.columns) t.columns → meaning (domineering rows) ≡ at_code R t.code
+    pub board_set : (R : Rules) → sized (t.squares / t.columns) t.columns ≡ true → R ≡ domineering_rules (t.squares / t.columns) t.columns → meaning (domineering rows) ≡ at_code R t.code
     board_set R s p =
         cond-true (rows_fit rows) (Some (rows_position rows)) None
         (and_from (even (long rows.first) (all rows)) _ (ap (λ c. even c (all rows)) columns_are ∙ were.are_even) (sym size_is ∙ s))
-        ∙ same_position (sym (p ∙ ap₂ domineering-rules rows_are (sym columns_are))) (sym code_is)
+        ∙ same_position (sym (p ∙ ap₂ domineering_rules rows_are (sym columns_are))) (sym code_is)
 
     pub board_refused : sized (t.squares / t.columns) t.columns ≡ false → meaning (domineering rows) ≡ None
     board_refused s = cond-false (rows_fit rows) (Some (rows_position rows)) None (and_right (even (long rows.first) (all rows)) _ (sym size_is ∙ s))

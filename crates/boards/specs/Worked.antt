@@ -1,11 +1,11 @@
 -- Boards worked by hand: what is written, and what it stands for.
 -- Assumes nothing.
 use Rattle.std.specs.Prelude.{◌≡◌, ℕ, List, [], ◌∷◌, Some, None, codes, Option}
-use Rattle.domineering.specs.Domineering.{domineering as domineering-rules}
-use Rattle.toads.specs.Toads.{toads as toads-rules}
+use Rattle.domineering.specs.Domineering.{domineering as domineering_rules}
+use Rattle.toads.specs.Toads.{toads as toads_rules}
 use Rattle.hackenbush.specs.declared.edge.Colour.TheVariants.{Left, Right}
-use Rattle.hackenbush.specs.Hackenbush.{hackenbush as hackenbush-rules}
-use Rattle.lines.specs.Syntax.{vacant, filled, toad, frog, blank, for_left, for_right, for-both, Board, domineering, toads, hackenbush, items_of}
+use Rattle.hackenbush.specs.Hackenbush.{hackenbush as hackenbush_rules}
+use Rattle.lines.specs.Syntax.{vacant, filled, toad, frog, blank, for_left, for_right, for_both, Board, domineering, toads, hackenbush, items_of}
 use Rattle.boards.specs.Boards.{Position, meaning}
 
 -- the board is written so, and stands for this position, or for none
@@ -26,11 +26,11 @@ abbrev pub stalk : Board
 stalk = hackenbush (record { first = record { from = 0; to = 1; colour = for_left }; more = record { from = 1; to = 2; colour = for_right } ∷ [] })
 
 abbrev pub far_vertex : Board
-far_vertex = hackenbush (record { first = record { from = 0; to = 16; colour = for-both }; more = [] })
+far_vertex = hackenbush (record { first = record { from = 0; to = 16; colour = for_both }; more = [] })
 
 pub record WorkedBoards : Type 0 where
-  pub rows : Worked corner_filled (codes "#./..") (Some (record { rules = domineering-rules 2 2; code = 1 }))
+  pub rows : Worked corner_filled (codes "#./..") (Some (record { rules = domineering_rules 2 2; code = 1 }))
   pub uneven : Worked uneven_rows (codes "./..") None
-  pub strip : Worked toad_meets_frog (codes "TF.") (Some (record { rules = toads-rules 3; code = 9 }))
-  pub edges : Worked stalk (codes "0-1L,1-2R") (Some (record { rules = hackenbush-rules (record { from = 0; to = 1; colour = Left } ∷ record { from = 1; to = 2; colour = Right } ∷ []); code = 3 }))
+  pub strip : Worked toad_meets_frog (codes "TF.") (Some (record { rules = toads_rules 3; code = 9 }))
+  pub edges : Worked stalk (codes "0-1L,1-2R") (Some (record { rules = hackenbush_rules (record { from = 0; to = 1; colour = Left } ∷ record { from = 1; to = 2; colour = Right } ∷ []); code = 3 }))
   pub far : Worked far_vertex (codes "0-16B") None

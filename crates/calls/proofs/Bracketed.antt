@@ -5,7 +5,7 @@ use mathlib.Core.Option.{some}
 use Rattle.std.proofs.lemmas.List.{length-append, length-map, map-append}
 use Rattle.games.specs.Form.{Form, Forms, form, ∅, ◌&◌, ◌⧺◌, 𝟎, lefts, rights}
 use Rattle.games.specs.Numbered.{Lists}
-use Rattle.games.specs.Text.{Mark, open-mark, bar, close-mark, comma, byte, text, bytes}
+use Rattle.games.specs.Text.{Mark, open_mark, bar, close_mark, comma, byte, text, bytes}
 use Rattle.games.proofs.Reader.{Bracket, in_left, in_right, State, wants, fresh, after, done, wrong, put, finish, next, run, result}
 use Rattle.games.proofs.Reading.{run_++}
 use Rattle.calls.specs.Rows.{Rows, no_numbers, first}
@@ -79,7 +79,7 @@ finish_parts ls rs (b ∷ bs) =
     ∙ (ap (λ l. (o ++ bracket_parts b) ++ l) (sym (append_assoc (parts_of_all ls) (parts_of_all rs) (f ∷ [])))
     ∙ sym (append_assoc (o ++ bracket_parts b) (parts_of_all ls ++ parts_of_all rs) (f ∷ []))))
 
-pub close_parts : (q : State) → Alive (next q close-mark) → closed_parts (next q close-mark) ≡ closed_parts q ++ closing q ∷ []
+pub close_parts : (q : State) → Alive (next q close_mark) → closed_parts (next q close_mark) ≡ closed_parts q ++ closing q ∷ []
 close_parts (wants bs) a = absurd a
 close_parts (fresh (in_left ls) bs) a = absurd a
 close_parts (fresh (in_right ls rs) bs) a = finish_parts ls rs bs
@@ -89,7 +89,7 @@ close_parts (done g) a = absurd a
 close_parts wrong a = absurd a
 
 -- any other mark adds none
-pub open_same : (q : State) → Alive (next q open-mark) → closed_parts (next q open-mark) ≡ closed_parts q
+pub open_same : (q : State) → Alive (next q open_mark) → closed_parts (next q open_mark) ≡ closed_parts q
 open_same (wants bs) a = append-nil (open_parts bs)
 open_same (fresh b bs) a = append-nil (open_parts (b ∷ bs))
 open_same (after b bs) a = absurd a
@@ -119,10 +119,10 @@ record Added (q : State) (m : Mark) : Type 0 where
   many : length list ≡ closes (m ∷ [])
 
 adds : (m : Mark) (q : State) → Alive (next q m) → Added q m
-adds open-mark q a = record { list = []; is = open_same q a ∙ sym (append-nil (closed_parts q)); many = refl }
+adds open_mark q a = record { list = []; is = open_same q a ∙ sym (append-nil (closed_parts q)); many = refl }
 adds bar q a = record { list = []; is = bar_same q a ∙ sym (append-nil (closed_parts q)); many = refl }
 adds comma q a = record { list = []; is = comma_same q a ∙ sym (append-nil (closed_parts q)); many = refl }
-adds close-mark q a = record { list = closing q ∷ []; is = close_parts q a; many = refl }
+adds close_mark q a = record { list = closing q ∷ []; is = close_parts q a; many = refl }
 
 -- a reader that is not wrong at the end was never wrong
 pub alive_before : (q : State) (ms : List Mark) → Alive (run q ms) → Alive q
@@ -145,10 +145,10 @@ adds_all (m ∷ ms) q a =
     record { list = x.list ++ y.list; is = y.is ∙ (ap (λ l. l ++ y.list) x.is ∙ append_assoc (closed_parts q) x.list y.list); many = omega arith }
   where
     closes_more : (m : Mark) (ms : List Mark) → closes (m ∷ ms) ≡ closes (m ∷ []) + closes ms
-    closes_more open-mark ms = omega arith
+    closes_more open_mark ms = omega arith
     closes_more bar ms = omega arith
     closes_more comma ms = omega arith
-    closes_more close-mark ms = omega arith
+    closes_more close_mark ms = omega arith
 
 -- The numbers of an open bracket's options so far: E says which numbers stand for which forms.
 abbrev pub Frame : (List ℕ → Forms → Type 0) → Bracket → Lists → Type 0
@@ -182,7 +182,7 @@ frames_map E D h (b ∷ bs) [] f = absurd f
 frames_map E D h (b ∷ bs) (l ∷ ls) f = (frame_map E D h b l f.0, frames_map E D h bs ls f.1)
 
 module _ (E : List ℕ → Forms → Type 0) (none : E [] ∅) where
-  pub frames_open : (q : State) (ls : List Lists) → Alive (next q open-mark) → Frames E (brackets q) ls → Frames E (brackets (next q open-mark)) (no_numbers ∷ ls)
+  pub frames_open : (q : State) (ls : List Lists) → Alive (next q open_mark) → Frames E (brackets q) ls → Frames E (brackets (next q open_mark)) (no_numbers ∷ ls)
   frames_open (wants bs) ls a f = ((none, refl), f)
   frames_open (fresh b bs) ls a f = ((none, refl), f)
   frames_open (after b bs) ls a f = absurd a
@@ -218,7 +218,7 @@ module _ (E : List ℕ → Forms → Type 0) (n : ℕ) (g : Form) (push : (ns : 
   frames_put (b ∷ bs) [] f = absurd f
   frames_put (b ∷ bs) (l ∷ ls) f = (frame_put b l f.0, f.1)
 
-  pub frames_close : (q : State) (l : Lists) (ls : List Lists) → closing q ≡ g → Alive (next q close-mark) → Frames E (brackets q) (l ∷ ls) → Frames E (brackets (next q close-mark)) (put_outside n (outside q) ls)
+  pub frames_close : (q : State) (l : Lists) (ls : List Lists) → closing q ≡ g → Alive (next q close_mark) → Frames E (brackets q) (l ∷ ls) → Frames E (brackets (next q close_mark)) (put_outside n (outside q) ls)
   frames_close (wants bs) l ls e a f = absurd a
   frames_close (fresh (in_left xs) bs) l ls e a f = absurd a
   frames_close (fresh (in_right xs ys) bs) l ls e a f = subst (λ h. Frames E (brackets (finish h bs)) (put_outside n bs ls)) (sym e) (frames_put bs ls f.1)
@@ -228,12 +228,12 @@ module _ (E : List ℕ → Forms → Type 0) (n : ℕ) (g : Form) (push : (ns : 
   frames_close wrong l ls e a f = absurd a
 
 -- the numbers of the innermost bracket are those of its form's two lists
-bracket_lists : (E : List ℕ → Forms → Type 0) (b : Bracket) (bs : List Bracket) (l : Lists) (ls : List Lists) → Alive (next (fresh b bs) close-mark) → Frames E (b ∷ bs) (l ∷ ls)
+bracket_lists : (E : List ℕ → Forms → Type 0) (b : Bracket) (bs : List Bracket) (l : Lists) (ls : List Lists) → Alive (next (fresh b bs) close_mark) → Frames E (b ∷ bs) (l ∷ ls)
     → E l.left (lefts (whole b)) × E l.right (rights (whole b))
 bracket_lists E (in_left xs) bs l ls a f = absurd a
 bracket_lists E (in_right xs ys) bs l ls a f = f.0
 
-pub closing_lists : (E : List ℕ → Forms → Type 0) (q : State) (l : Lists) (ls : List Lists) → Alive (next q close-mark) → Frames E (brackets q) (l ∷ ls)
+pub closing_lists : (E : List ℕ → Forms → Type 0) (q : State) (l : Lists) (ls : List Lists) → Alive (next q close_mark) → Frames E (brackets q) (l ∷ ls)
     → E l.left (lefts (closing q)) × E l.right (rights (closing q))
 closing_lists E (wants bs) l ls a f = absurd a
 closing_lists E (fresh b bs) l ls a f = bracket_lists E b bs l ls a f
@@ -269,12 +269,12 @@ text_parts : (g : Form) → parts g ≡ closed_parts (at (text g))
 text_parts g = ap closed_parts (sym (text_at g))
 
 -- the form of the last bracket is the whole form
-last_bracket : (g : Form) (b : Bracket) (bs : List Bracket) → next (fresh b bs) close-mark ≡ done g → whole b ≡ g
+last_bracket : (g : Form) (b : Bracket) (bs : List Bracket) → next (fresh b bs) close_mark ≡ done g → whole b ≡ g
 last_bracket g (in_left xs) bs e = absurd (subst Alive (sym e) tt)
 last_bracket g (in_right xs ys) [] e = cc
 last_bracket g (in_right xs ys) (b ∷ bs) e = let z : ◌≡◌ {A = ℕ} 0 1 = cc in absurd (omega arith)
 
-pub last_form : (g : Form) (q : State) → next q close-mark ≡ done g → closing q ≡ g
+pub last_form : (g : Form) (q : State) → next q close_mark ≡ done g → closing q ≡ g
 last_form g (wants bs) e = absurd (subst Alive (sym e) tt)
 last_form g (fresh b bs) e = last_bracket g b bs e
 last_form g (after b bs) e = last_bracket g b bs e
@@ -283,21 +283,21 @@ last_form g wrong e = absurd (subst Alive (sym e) tt)
 
 -- A form's text before and after one of its closing brackets: the forms closed before it, and the bracket's place.
 pub record Split (g : Form) (ms rest : List Mark) : Type 0 where
-  pub alive : Alive (next (at ms) close-mark)
+  pub alive : Alive (next (at ms) close_mark)
   pub behind : List Form
   pub split : parts g ≡ closed_parts (at ms) ++ closing (at ms) ∷ behind
   pub place : get_or (closings 0 (bytes g)) (length (closed_parts (at ms))) 0 ≡ length ms
 
-pub split_at : (g : Form) (ms rest : List Mark) → text g ≡ ms ++ close-mark ∷ rest → Split g ms rest
+pub split_at : (g : Form) (ms rest : List Mark) → text g ≡ ms ++ close_mark ∷ rest → Split g ms rest
 split_at g ms rest e =
     let q = at ms in
-    let whole_run : at (text g) ≡ run (next q close-mark) rest = ap at e ∙ run_++ (wants []) ms (close-mark ∷ rest) in
-    let all_alive : Alive (run (next q close-mark) rest) = subst Alive whole_run (text_alive g) in
-    let a : Alive (next q close-mark) = alive_before (next q close-mark) rest all_alive in
-    let before = adds_all ms (wants []) (alive_before q (close-mark ∷ rest) all_alive) in
-    let later = adds_all rest (next q close-mark) all_alive in
+    let whole_run : at (text g) ≡ run (next q close_mark) rest = ap at e ∙ run_++ (wants []) ms (close_mark ∷ rest) in
+    let all_alive : Alive (run (next q close_mark) rest) = subst Alive whole_run (text_alive g) in
+    let a : Alive (next q close_mark) = alive_before (next q close_mark) rest all_alive in
+    let before = adds_all ms (wants []) (alive_before q (close_mark ∷ rest) all_alive) in
+    let later = adds_all rest (next q close_mark) all_alive in
     let count : length (closed_parts q) ≡ closes ms = ap length before.is ∙ before.many in
-    let b : bytes g ≡ map byte ms ++ 125 ∷ map byte rest = ap (map byte) e ∙ map-append byte ms (close-mark ∷ rest) in
+    let b : bytes g ≡ map byte ms ++ 125 ∷ map byte rest = ap (map byte) e ∙ map-append byte ms (close_mark ∷ rest) in
     record {
       alive = a;
       behind = later.list;
@@ -317,8 +317,8 @@ module _ {c : ℕ} {begin rows : Rows} {es : List Entry} where
   moved : (q p : State) (ls ks : List Lists) → closed_parts p ≡ closed_parts q → Frames (Equal rows) (brackets p) ks → ReadSoFar c begin q ls rows es → ReadSoFar c begin p ks rows es
   moved q p ls ks e f x = record { turn = subst (λ gs. SealsInTurn c begin gs None rows es) (sym e) x.turn; numbers = f }
 
-  pub read_opens : (q : State) (ls : List Lists) → Alive (next q open-mark) → ReadSoFar c begin q ls rows es → ReadSoFar c begin (next q open-mark) (no_numbers ∷ ls) rows es
-  read_opens q ls a x = moved q (next q open-mark) ls (no_numbers ∷ ls) (open_same q a) (frames_open (Equal rows) none_left q ls a x.numbers) x
+  pub read_opens : (q : State) (ls : List Lists) → Alive (next q open_mark) → ReadSoFar c begin q ls rows es → ReadSoFar c begin (next q open_mark) (no_numbers ∷ ls) rows es
+  read_opens q ls a x = moved q (next q open_mark) ls (no_numbers ∷ ls) (open_same q a) (frames_open (Equal rows) none_left q ls a x.numbers) x
 
   pub read_bars : (q : State) (ls : List Lists) → Alive (next q bar) → ReadSoFar c begin q ls rows es → ReadSoFar c begin (next q bar) ls rows es
   read_bars q ls a x = moved q (next q bar) ls ls (bar_same q a) (frames_bar (Equal rows) none_left q ls a x.numbers) x
@@ -326,12 +326,12 @@ module _ {c : ℕ} {begin rows : Rows} {es : List Entry} where
   pub read_commas : (q : State) (ls : List Lists) → Alive (next q comma) → ReadSoFar c begin q ls rows es → ReadSoFar c begin (next q comma) ls rows es
   read_commas q ls a x = moved q (next q comma) ls ls (comma_same q a) (frames_comma (Equal rows) none_left q ls a x.numbers) x
 
-  seal_closing : (q : State) (l : Lists) (ls : List Lists) (r : Answer ℕ) (d : Rows) → Alive (next q close-mark) → ReadSoFar c begin q (l ∷ ls) rows es → SealsNumbers c rows l r d → Seals c rows (closing q) r d
+  seal_closing : (q : State) (l : Lists) (ls : List Lists) (r : Answer ℕ) (d : Rows) → Alive (next q close_mark) → ReadSoFar c begin q (l ∷ ls) rows es → SealsNumbers c rows l r d → Seals c rows (closing q) r d
   seal_closing q l ls r d a x s = let f = closing_lists (Equal rows) q l ls a x.numbers in (sealing_goes_by_numbers c rows d r l (closing q) f.0 f.1).0 s
 
   -- a closing bracket is sealed
-  pub read_closes : (q : State) (l : Lists) (ls : List Lists) (n : ℕ) (d : Rows) → Alive (next q close-mark) → ReadSoFar c begin q (l ∷ ls) rows es → SealsNumbers c rows l (told n) d
-      → ReadSoFar c begin (next q close-mark) (put_outside n (outside q) ls) d (entry n (closing q) ∷ es)
+  pub read_closes : (q : State) (l : Lists) (ls : List Lists) (n : ℕ) (d : Rows) → Alive (next q close_mark) → ReadSoFar c begin q (l ∷ ls) rows es → SealsNumbers c rows l (told n) d
+      → ReadSoFar c begin (next q close_mark) (put_outside n (outside q) ls) d (entry n (closing q) ∷ es)
   read_closes q l ls n d a x s =
       let t = seal_closing q l ls (told n) d a x s in
       let g = seals_grows t in
@@ -343,15 +343,15 @@ module _ {c : ℕ} {begin rows : Rows} {es : List Entry} where
       }
 
   -- the last one is the whole form's
-  pub read_ends : (q : State) (l : Lists) (g : Form) (n : ℕ) (d : Rows) (ps : List ℕ) → next q close-mark ≡ done g → ReadSoFar c begin q (l ∷ []) rows es → SealsNumbers c rows l (told n) d
+  pub read_ends : (q : State) (l : Lists) (g : Form) (n : ℕ) (d : Rows) (ps : List ℕ) → next q close_mark ≡ done g → ReadSoFar c begin q (l ∷ []) rows es → SealsNumbers c rows l (told n) d
       → Enters c begin g ps (told n) d (entry n g ∷ es)
   read_ends q l g n d ps e x s =
-      let a : Alive (next q close-mark) = subst Alive (sym e) tt in
+      let a : Alive (next q close_mark) = subst Alive (sym e) tt in
       let y = (read_closes q l [] n d a x s).turn in
       accepted (subst (λ f. SealsInTurn c begin (parts g) None d (entry n f ∷ es)) (last_form g q e) (subst (λ p. SealsInTurn c begin (closed_parts p) None d (entry n (closing q) ∷ es)) e y))
 
   -- a closing bracket whose seal is refused ends the reading, and names its place
-  pub read_refused : (g : Form) (ms rest : List Mark) (l : Lists) (ls : List Lists) (k : ℕ) (d : Rows) → text g ≡ ms ++ close-mark ∷ rest → ReadSoFar c begin (at ms) (l ∷ ls) rows es → SealsNumbers c rows l (refused k) d
+  pub read_refused : (g : Form) (ms rest : List Mark) (l : Lists) (ls : List Lists) (k : ℕ) (d : Rows) → text g ≡ ms ++ close_mark ∷ rest → ReadSoFar c begin (at ms) (l ∷ ls) rows es → SealsNumbers c rows l (refused k) d
       → Enters c begin g (closings 0 (bytes g)) (refused_at k (length ms)) d es
   read_refused g ms rest l ls k d e x s =
       let q = at ms in

@@ -4,7 +4,7 @@ use Rattle.std.proofs.Common.{◌≡◌, ℕ, ◌<◌, List, [], ◌∷◌, ◌+
 use Rattle.std.specs.List.{AllByRecursion}
 use Rattle.games.specs.Form.{Form, Forms, form, ∅, ◌&◌, ◌⧺◌, lefts, rights}
 use Rattle.games.specs.Numbered.{Lists, each, form_by}
-use Rattle.games.specs.Text.{Mark, open-mark, bar, close-mark, comma, text}
+use Rattle.games.specs.Text.{Mark, open_mark, bar, close_mark, comma, text}
 use Rattle.games.proofs.Reader.{State, wants, done, next}
 use Rattle.calls.specs.Rows.{Rows, no_numbers, node, Below}
 use Rattle.calls.specs.Answers.{told, refused_at}
@@ -46,8 +46,8 @@ module _ (rows : Rows) where
   moved : (q p : State) (ls ks : List Lists) → closed_parts p ≡ closed_parts q → Frames (Names rows) (brackets p) ks → LookedUp rows q ls → LookedUp rows p ks
   moved q p ls ks e f x = record { listed = subst (AllByRecursion (Listed rows)) (sym e) x.listed; numbers = f }
 
-  pub look_opens : (q : State) (ls : List Lists) → Alive (next q open-mark) → LookedUp rows q ls → LookedUp rows (next q open-mark) (no_numbers ∷ ls)
-  look_opens q ls a x = moved q (next q open-mark) ls (no_numbers ∷ ls) (open_same q a) (frames_open (Names rows) (names_none rows) q ls a x.numbers) x
+  pub look_opens : (q : State) (ls : List Lists) → Alive (next q open_mark) → LookedUp rows q ls → LookedUp rows (next q open_mark) (no_numbers ∷ ls)
+  look_opens q ls a x = moved q (next q open_mark) ls (no_numbers ∷ ls) (open_same q a) (frames_open (Names rows) (names_none rows) q ls a x.numbers) x
 
   pub look_bars : (q : State) (ls : List Lists) → Alive (next q bar) → LookedUp rows q ls → LookedUp rows (next q bar) ls
   look_bars q ls a x = moved q (next q bar) ls ls (bar_same q a) (frames_bar (Names rows) (names_none rows) q ls a x.numbers) x
@@ -59,7 +59,7 @@ module _ (rows : Rows) where
   lists_of (form xs ys) l p q = ap₂ form p q
 
   -- the innermost bracket's lists are row n, or no row: then its form is node n's, or no node's
-  module _ (sound : Sound rows) (q : State) (l : Lists) (ls : List Lists) (alive : Alive (next q close-mark)) (x : LookedUp rows q (l ∷ ls)) where
+  module _ (sound : Sound rows) (q : State) (l : Lists) (ls : List Lists) (alive : Alive (next q close_mark)) (x : LookedUp rows q (l ∷ ls)) where
     names : Names rows l.left (lefts (closing q)) × Names rows l.right (rights (closing q))
     names = closing_lists (Names rows) q l ls alive x.numbers
 
@@ -76,7 +76,7 @@ module _ (rows : Rows) where
     no_row_stands f y = f y.at y.stands.inside ((rows_as_written rows sound y.at l y.stands.inside inside).0 (y.stands.as_written ∙ sym spelt))
 
     -- a closing bracket is found
-    pub look_closes : (n : ℕ) → n < length rows → get_or rows n no_numbers ≡ l → LookedUp rows (next q close-mark) (put_outside n (outside q) ls)
+    pub look_closes : (n : ℕ) → n < length rows → get_or rows n no_numbers ≡ l → LookedUp rows (next q close_mark) (put_outside n (outside q) ls)
     look_closes n k e =
         let s = row_stands n k e in
         record {
@@ -85,14 +85,14 @@ module _ (rows : Rows) where
         }
 
   -- the last one is the whole form's
-  pub look_ends : (q : State) (l : Lists) (ls : List Lists) (t : List ℕ) (g : Form) (n : ℕ) → Sound rows → Written t g → next q close-mark ≡ done g → LookedUp rows q (l ∷ ls)
+  pub look_ends : (q : State) (l : Lists) (ls : List Lists) (t : List ℕ) (g : Form) (n : ℕ) → Sound rows → Written t g → next q close_mark ≡ done g → LookedUp rows q (l ∷ ls)
       → n < length rows → get_or rows n no_numbers ≡ l → LooksUp rows t (told n)
   look_ends q l ls t g n sound w e x k r =
-      let a : Alive (next q close-mark) = subst Alive (sym e) tt in
+      let a : Alive (next q close_mark) = subst Alive (sym e) tt in
       LooksUp.listed g n w (subst (λ h. Stands rows h n) (last_form g q e) (row_stands sound q l ls a x n k r))
 
   -- a closing bracket that is not found ends the look-up, and its place is named
-  pub look_misses : (t : List ℕ) (g : Form) (ms rest : List Mark) (l : Lists) (ls : List Lists) → Sound rows → Written t g → text g ≡ ms ++ close-mark ∷ rest → LookedUp rows (at ms) (l ∷ ls)
+  pub look_misses : (t : List ℕ) (g : Form) (ms rest : List Mark) (l : Lists) (ls : List Lists) → Sound rows → Written t g → text g ≡ ms ++ close_mark ∷ rest → LookedUp rows (at ms) (l ∷ ls)
       → ((n : ℕ) → n < length rows → ¬ (get_or rows n no_numbers ≡ l)) → LooksUp rows t (refused_at 9 (length ms))
   look_misses t g ms rest l ls sound w e x f =
       let y = split_at g ms rest e in

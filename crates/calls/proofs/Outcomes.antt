@@ -10,7 +10,7 @@ use Rattle.games.specs.Order.{◌≥◌, ◌≈◌}
 use Rattle.games.specs.Sides.{options}
 use Rattle.games.specs.Numbered.{Lists, each, form_by}
 use Rattle.games.proofs.Order.{≥_dec, ≈_sym, ≈_trans}
-use Rattle.games.proofs.Exists.{found as canonical-of}
+use Rattle.games.proofs.Exists.{found as canonical_of}
 use Rattle.games.proofs.Unique.{unique}
 use Rattle.calls.specs.Rows.{Rows, node, Below}
 use Rattle.calls.specs.Answers.{Answer, told, refused}
@@ -58,10 +58,10 @@ pub seals_total : (c : ℕ) (rows : Rows) (g : Form) → Sound rows → ((s : Si
 seals_total c rows g s known = go (look rows g (length rows) (omega arith))
   where
     h : Form
-    h = (canonical-of g).it
+    h = (canonical_of g).it
 
     of : CanonicalFormOf g h
-    of = record { is_canonical = (canonical-of g).is_canonical; same_value = ≈_sym (canonical-of g).same_value }
+    of = record { is_canonical = (canonical_of g).is_canonical; same_value = ≈_sym (canonical_of g).same_value }
 
     is : (s : Side) (x : Form) → x ∈ options s h → Is rows x
     is = inside rows s h g of.is_canonical of.same_value known

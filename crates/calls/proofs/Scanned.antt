@@ -4,7 +4,7 @@ use Rattle.std.proofs.Common.{◌≡◌, ℕ, zero, suc, ◌+◌, ◌<◌, ◌�
 use mathlib.Core.Option.{none}
 use Rattle.std.proofs.lemmas.List.{take-append-drop, take_all, take_more, drop_more, length-take}
 use Rattle.games.specs.Form.{Form}
-use Rattle.games.specs.Text.{Mark, open-mark, bar, close-mark, comma, byte}
+use Rattle.games.specs.Text.{Mark, open_mark, bar, close_mark, comma, byte}
 use Rattle.games.proofs.Reader.{Bracket, in_left, in_right, State, wants, fresh, after, done, wrong, finish, next, run, result}
 use Rattle.games.proofs.Reading.{run_++}
 use Rattle.calls.specs.Texts.{times, nesting, Shallow, Written, GoesOn, Fault}
@@ -24,30 +24,30 @@ finish_open g (b ∷ bs) = refl
 
 -- a mark opens a bracket, closes one, or leaves them
 bracket_step : (b : Bracket) (bs : List Bracket) → (Alive (next (fresh b bs) bar) → length (brackets (next (fresh b bs) bar)) ≡ suc (length bs))
-    × (Alive (next (fresh b bs) close-mark) → length (brackets (next (fresh b bs) close-mark)) ≡ length bs)
+    × (Alive (next (fresh b bs) close_mark) → length (brackets (next (fresh b bs) close_mark)) ≡ length bs)
 bracket_step (in_left ls) bs = (λ a. refl, λ a. absurd a)
 bracket_step (in_right ls rs) bs = (λ a. absurd a, λ a. finish_open _ bs)
 
 step_open : (q : State) (m : Mark) → Alive (next q m) → opens (m ∷ []) + length (brackets q) ≡ shuts (m ∷ []) + length (brackets (next q m))
-step_open (wants bs) open-mark a = omega arith
+step_open (wants bs) open_mark a = omega arith
 step_open (wants bs) bar a = absurd a
-step_open (wants bs) close-mark a = absurd a
+step_open (wants bs) close_mark a = absurd a
 step_open (wants bs) comma a = absurd a
-step_open (fresh b bs) open-mark a = omega arith
+step_open (fresh b bs) open_mark a = omega arith
 step_open (fresh b bs) bar a = let h = (bracket_step b bs).0 a in omega arith
-step_open (fresh b bs) close-mark a = let h = (bracket_step b bs).1 a in omega arith
+step_open (fresh b bs) close_mark a = let h = (bracket_step b bs).1 a in omega arith
 step_open (fresh b bs) comma a = absurd a
-step_open (after b bs) open-mark a = absurd a
+step_open (after b bs) open_mark a = absurd a
 step_open (after b bs) bar a = let h = (bracket_step b bs).0 a in omega arith
-step_open (after b bs) close-mark a = let h = (bracket_step b bs).1 a in omega arith
+step_open (after b bs) close_mark a = let h = (bracket_step b bs).1 a in omega arith
 step_open (after b bs) comma a = omega arith
 step_open (done g) m a = absurd a
 step_open wrong m a = absurd a
 
 more_opens : (m : Mark) (ms : List Mark) → (opens (m ∷ ms) ≡ opens (m ∷ []) + opens ms) × (shuts (m ∷ ms) ≡ shuts (m ∷ []) + shuts ms)
-more_opens open-mark ms = (omega arith, omega arith)
+more_opens open_mark ms = (omega arith, omega arith)
 more_opens bar ms = (omega arith, omega arith)
-more_opens close-mark ms = (omega arith, omega arith)
+more_opens close_mark ms = (omega arith, omega arith)
 more_opens comma ms = (omega arith, omega arith)
 
 run_open : (q : State) (ms : List Mark) → Alive (run q ms) → opens ms + length (brackets q) ≡ shuts ms + length (brackets (run q ms))

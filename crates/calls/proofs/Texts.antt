@@ -5,7 +5,7 @@ use mathlib.Core.Option.{none, some}
 use native.Mathlib.Decide.{dec_lt, dec_le, ℕ_discrete}
 use Rattle.std.proofs.lemmas.List.{take-append-drop, take-take, take_at, take-append-le, take_all, length-append, map-append}
 use Rattle.games.specs.Form.{Form, Forms, form, ∅, ◌&◌}
-use Rattle.games.specs.Text.{Mark, open-mark, bar, close-mark, comma, byte, text, texts, more, bytes}
+use Rattle.games.specs.Text.{Mark, open_mark, bar, close_mark, comma, byte, text, texts, more, bytes}
 use Rattle.games.proofs.Reader.{Bracket, in_left, in_right, State, wants, fresh, after, done, wrong, put, finish, run, result, read}
 use Rattle.games.proofs.Reading.{run_++, read_text, text_read}
 use Rattle.games.proofs.Text.{map_byte_injective}
@@ -59,8 +59,8 @@ abbrev Completes : State → Type 0
 Completes q = (ms : List Mark) × (g : Form) × (run q ms ≡ done g)
 
 close_it : (b : Bracket) (bs : List Bracket) → ((h : Form) → Completes (finish h bs)) → Completes (after b bs) × Completes (fresh b bs)
-close_it (in_left ls) bs f = let (ms, g, e) = f (form ls ∅) in ((bar ∷ close-mark ∷ ms, g, e), (bar ∷ close-mark ∷ ms, g, e))
-close_it (in_right ls rs) bs f = let (ms, g, e) = f (form ls rs) in ((close-mark ∷ ms, g, e), (close-mark ∷ ms, g, e))
+close_it (in_left ls) bs f = let (ms, g, e) = f (form ls ∅) in ((bar ∷ close_mark ∷ ms, g, e), (bar ∷ close_mark ∷ ms, g, e))
+close_it (in_right ls rs) bs f = let (ms, g, e) = f (form ls rs) in ((close_mark ∷ ms, g, e), (close_mark ∷ ms, g, e))
 
 completes_finish : (bs : List Bracket) (g : Form) → Completes (finish g bs)
 completes_finish [] g = ([], g, refl)
@@ -81,7 +81,7 @@ alive_dec (done g) = inl tt
 alive_dec wrong = inr refl
 
 completes : (q : State) → Alive q → Completes q
-completes (wants bs) a = let (ms, g, e) = (close_it (in_left ∅) bs (completes_finish bs)).1 in (open-mark ∷ ms, g, e)
+completes (wants bs) a = let (ms, g, e) = (close_it (in_left ∅) bs (completes_finish bs)).1 in (open_mark ∷ ms, g, e)
 completes (fresh b bs) a = (close_it b bs (completes_finish bs)).1
 completes (after b bs) a = (close_it b bs (completes_finish bs)).0
 completes (done g) a = ([], g, refl)
@@ -191,11 +191,11 @@ is_mark : (b : ℕ) → ((m : Mark) × (byte m ≡ b)) ⊎ ((m : Mark) → ¬ (b
 is_mark b = go (ℕ_discrete 123 b) (ℕ_discrete 124 b) (ℕ_discrete 125 b) (ℕ_discrete 44 b)
   where
     go : Dec (123 ≡ b) → Dec (124 ≡ b) → Dec (125 ≡ b) → Dec (44 ≡ b) → ((m : Mark) × (byte m ≡ b)) ⊎ ((m : Mark) → ¬ (byte m ≡ b))
-    go (yes e) p q r = inl (open-mark, e)
+    go (yes e) p q r = inl (open_mark, e)
     go (no f) (yes e) q r = inl (bar, e)
-    go (no f) (no g) (yes e) r = inl (close-mark, e)
+    go (no f) (no g) (yes e) r = inl (close_mark, e)
     go (no f) (no g) (no h) (yes e) = inl (comma, e)
-    go (no f) (no g) (no h) (no k) = inr (elim [ open-mark ↦ f | bar ↦ g | close-mark ↦ h | comma ↦ k ])
+    go (no f) (no g) (no h) (no k) = inr (elim [ open_mark ↦ f | bar ↦ g | close_mark ↦ h | comma ↦ k ])
 
 -- one more byte
 module _ (b : ℕ) (rest : List ℕ) (ms : List Mark) (a : Alive (at ms)) (s : Shallow (map byte ms)) where
@@ -300,8 +300,8 @@ closes_++ (m ∷ a) b = go (closes_++ a b) (eqb 125 (byte m))
 mutual
   closes_text : (g : Form) → closes (text g) ≡ length (parts g)
   closes_text (form ls rs) =
-      let a = closes_++ (texts ls) (bar ∷ (texts rs ++ close-mark ∷ [])) in
-      let b = closes_++ (texts rs) (close-mark ∷ []) in
+      let a = closes_++ (texts ls) (bar ∷ (texts rs ++ close_mark ∷ [])) in
+      let b = closes_++ (texts rs) (close_mark ∷ []) in
       let c = closes_texts ls in
       let d = closes_texts rs in
       let e = length-append (parts_of_all ls) (parts_of_all rs ++ form ls rs ∷ []) in

@@ -15,13 +15,13 @@ use Rattle.sealing.proofs.Sealing.{row_below, row_one}
 use Rattle.calls.specs.Answers.{Answer, told, refused}
 use Rattle.calls.specs.Rows.{Below, Rows, node}
 use Rattle.calls.specs.Sealing.{CanonicalFormOf, Narrow, New, Seals, SealsNumbers, found, added, too_wide, no_place}
-use Rattle.calls.specs.Sealing.{count as how-many}
+use Rattle.calls.specs.Sealing.{count as how_many}
 use Rattle.calls.proofs.Members.{sealing_goes_by_members}
 use Rattle.dictionary.specs.Kept.{Kept, ListsOf}
 use Rattle.dictionary.proofs.Listed.{lists_within, row_lists}
 use Rattle.dictionary.proofs.Tied.{agree, agree_form}
 
-each_count : (f : ℕ → Form) (xs : List ℕ) → how-many (each f xs) ≡ length xs
+each_count : (f : ℕ → Form) (xs : List ℕ) → how_many (each f xs) ≡ length xs
 each_count f [] = refl
 each_count f (x ∷ xs) = ap suc (each_count f xs)
 

@@ -10,7 +10,7 @@ use Rattle.games.specs.declared.side.Side.TheVariants.{Left, Right}
 use Rattle.std.specs.Option.{SomeIff}
 use Rattle.games.specs.Form.{Form, Forms, ∅, ◌&◌, ◌⧺◌}
 use Rattle.games.specs.Numbered.{Lists, list_of, each, form_by}
-use Rattle.games.specs.Text.{byte, comma, close-mark, bar, text, texts, more, bytes}
+use Rattle.games.specs.Text.{byte, comma, close_mark, bar, text, texts, more, bytes}
 use Rattle.rulesets.proofs.Positions.{nth_some}
 use Rattle.stores.specs.Rows.{Lawful, row_at}
 use Rattle.calls.specs.Rows.{Rows, Below, node}
@@ -69,8 +69,8 @@ module _ (f : ℕ → Form) where
 -- the text of a node from the texts of its options
 form_text : (f : ℕ → Form) (l : Lists) → bytes (form_by f l) ≡ 123 ∷ (written f l.left ++ (124 ∷ (written f l.right ++ 125 ∷ [])))
 form_text f l =
-    ap (λ t. 123 ∷ t) (map-append byte (texts (each f l.left)) (bar ∷ (texts (each f l.right) ++ (close-mark ∷ [])))
-    ∙ ap (λ t. written f l.left ++ (124 ∷ t)) (map-append byte (texts (each f l.right)) (close-mark ∷ [])))
+    ap (λ t. 123 ∷ t) (map-append byte (texts (each f l.left)) (bar ∷ (texts (each f l.right) ++ (close_mark ∷ [])))
+    ∙ ap (λ t. written f l.left ++ (124 ∷ t)) (map-append byte (texts (each f l.right)) (close_mark ∷ [])))
 
 module _ (rows : Rows) (room : ℕ) (law : Lawful rows room) where
   below : (n : ℕ) → Below n (row_at rows n)

@@ -9,7 +9,7 @@ use Rattle.games.specs.Sides.{Left, Right}
 use Rattle.games.specs.Play.{wins}
 use Rattle.games.specs.Canon.{Canonical}
 use Rattle.games.specs.Tests.{is_canonical}
-use Rattle.games.specs.Text.{open-mark, bar, close-mark, bytes}
+use Rattle.games.specs.Text.{open_mark, bar, close_mark, bytes}
 use Rattle.games.proofs.Reader.{read}
 use Rattle.games.proofs.Tests.{canonical_is}
 use Rattle.games.proofs.Exists.{canon}
@@ -94,6 +94,6 @@ three_canon = refl
 star_bytes : bytes ⋆ ≡ 123 ∷ 123 ∷ 124 ∷ 125 ∷ 124 ∷ 123 ∷ 124 ∷ 125 ∷ 125 ∷ []
 star_bytes = refl
 
-star_read : read (open-mark ∷ open-mark ∷ bar ∷ close-mark ∷ bar ∷ open-mark ∷ bar ∷ close-mark ∷ close-mark ∷ []) ≡ some ⋆
+star_read : read (open_mark ∷ open_mark ∷ bar ∷ close_mark ∷ bar ∷ open_mark ∷ bar ∷ close_mark ∷ close_mark ∷ []) ≡ some ⋆
 unfolding read
 star_read = refl

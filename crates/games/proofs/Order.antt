@@ -27,13 +27,13 @@ ge_law g h =
 
 -- the law as an introduction and two eliminations: all that the rest uses
 pub ≥_make : {g h : Form} → ((r : Form) → r ∈ rights g → ¬ (h ≥ r)) → ((l : Form) → l ∈ lefts h → ¬ (l ≥ g)) → g ≥ h
-≥_make {g} {h} no-r no-l = record { holds = T_same (sym (ge_law g h)) (and_make _ _ (not_T _ right) (not_T _ left)) }
+≥_make {g} {h} no_r no_l = record { holds = T_same (sym (ge_law g h)) (and_make _ _ (not_T _ right) (not_T _ left)) }
   where
     right : T (any (λ r. ge h r) (rights g)) → ⊥
-    right t = let (r, m, k) = any_some (λ r. ge h r) (rights g) t in no-r r m (record { holds = k })
+    right t = let (r, m, k) = any_some (λ r. ge h r) (rights g) t in no_r r m (record { holds = k })
 
     left : T (any (λ l. ge l g) (lefts h)) → ⊥
-    left t = let (l, m, k) = any_some (λ l. ge l g) (lefts h) t in no-l l m (record { holds = k })
+    left t = let (l, m, k) = any_some (λ l. ge l g) (lefts h) t in no_l l m (record { holds = k })
 
 pub ≥_right : {g h r : Form} → g ≥ h → r ∈ rights g → ¬ (h ≥ r)
 ≥_right {g} {h} p m q = T_not _ (and_left _ _ (T_same (ge_law g h) p.holds)) (any_at (λ r. ge h r) m q.holds)

@@ -3,7 +3,7 @@
 use Rattle.std.proofs.Common.{List, [], ◌∷◌}
 use mathlib.Core.Option.{Option, none, some}
 use Rattle.games.specs.Form.{Form, Forms, form, ∅, ◌&◌, ◌⧺◌}
-use Rattle.games.specs.Text.{Mark, open-mark, bar, close-mark, comma}
+use Rattle.games.specs.Text.{Mark, open_mark, bar, close_mark, comma}
 
 -- an open bracket: in its Left options, or past them in its Right options, with those read so far
 pub data Bracket : Type 0 where
@@ -37,17 +37,17 @@ end_right (in_left ls) bs = wrong
 end_right (in_right ls rs) bs = finish (form ls rs) bs
 
 abbrev pub next : State → Mark → State
-next (wants bs) open-mark = fresh (in_left ∅) bs
+next (wants bs) open_mark = fresh (in_left ∅) bs
 next (wants bs) bar = wrong
-next (wants bs) close-mark = wrong
+next (wants bs) close_mark = wrong
 next (wants bs) comma = wrong
-next (fresh b bs) open-mark = fresh (in_left ∅) (b ∷ bs)
+next (fresh b bs) open_mark = fresh (in_left ∅) (b ∷ bs)
 next (fresh b bs) bar = end_left b bs
-next (fresh b bs) close-mark = end_right b bs
+next (fresh b bs) close_mark = end_right b bs
 next (fresh b bs) comma = wrong
-next (after b bs) open-mark = wrong
+next (after b bs) open_mark = wrong
 next (after b bs) bar = end_left b bs
-next (after b bs) close-mark = end_right b bs
+next (after b bs) close_mark = end_right b bs
 next (after b bs) comma = wants (b ∷ bs)
 next (done g) m = wrong
 next wrong m = wrong

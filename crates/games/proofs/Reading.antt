@@ -3,7 +3,7 @@
 use Rattle.std.proofs.Common.{◌≡◌, List, [], ◌∷◌, ◌++◌, sym, refl, ap, ◌∙◌, append_assoc, append-nil}
 use mathlib.Core.Option.{some}
 use Rattle.games.specs.Form.{Form, Forms, form, ∅, ◌&◌, ◌⧺◌}
-use Rattle.games.specs.Text.{Mark, open-mark, bar, close-mark, comma, text, texts, more}
+use Rattle.games.specs.Text.{Mark, open_mark, bar, close_mark, comma, text, texts, more}
 use Rattle.games.proofs.Reader.{Bracket, in_left, in_right, State, wants, fresh, after, done, wrong, put, finish, end_left, end_right, next, run, result, read}
 
 pub run_++ : (q : State) (a b : List Mark) → run q (a ++ b) ≡ run (run q a) b
@@ -40,20 +40,20 @@ then_bar : (ls : Forms) (bs : List Bracket) → next (then ls (in_left ∅) bs) 
 then_bar ∅ bs = refl
 then_bar (l & ls) bs = refl
 
-then_close : (ls rs : Forms) (bs : List Bracket) → next (then rs (in_right ls ∅) bs) close-mark ≡ finish (form ls rs) bs
+then_close : (ls rs : Forms) (bs : List Bracket) → next (then rs (in_right ls ∅) bs) close_mark ≡ finish (form ls rs) bs
 then_close ls ∅ bs = refl
 then_close ls (r & rs) bs = refl
 
 -- the reader takes in a form's text, from where a form can begin; a list's; and a list's after a first form
 mutual
-  run_form : (g : Form) (q : State) (bs : List Bracket) → next q open-mark ≡ fresh (in_left ∅) bs → run q (text g) ≡ finish g bs
+  run_form : (g : Form) (q : State) (bs : List Bracket) → next q open_mark ≡ fresh (in_left ∅) bs → run q (text g) ≡ finish g bs
   run_form (form ls rs) q bs e =
-      ap (λ p. run p (texts ls ++ (bar ∷ (texts rs ++ (close-mark ∷ []))))) e
-      ∙ run_++ (fresh (in_left ∅) bs) (texts ls) (bar ∷ (texts rs ++ (close-mark ∷ [])))
-      ∙ ap (λ p. run (next p bar) (texts rs ++ (close-mark ∷ []))) (run_texts ls (in_left ∅) bs)
-      ∙ ap (λ p. run p (texts rs ++ (close-mark ∷ []))) (then_bar ls bs)
-      ∙ run_++ (fresh (in_right ls ∅) bs) (texts rs) (close-mark ∷ [])
-      ∙ ap (λ p. next p close-mark) (run_texts rs (in_right ls ∅) bs)
+      ap (λ p. run p (texts ls ++ (bar ∷ (texts rs ++ (close_mark ∷ []))))) e
+      ∙ run_++ (fresh (in_left ∅) bs) (texts ls) (bar ∷ (texts rs ++ (close_mark ∷ [])))
+      ∙ ap (λ p. run (next p bar) (texts rs ++ (close_mark ∷ []))) (run_texts ls (in_left ∅) bs)
+      ∙ ap (λ p. run p (texts rs ++ (close_mark ∷ []))) (then_bar ls bs)
+      ∙ run_++ (fresh (in_right ls ∅) bs) (texts rs) (close_mark ∷ [])
+      ∙ ap (λ p. next p close_mark) (run_texts rs (in_right ls ∅) bs)
       ∙ then_close ls rs bs
 
   run_texts : (gs : Forms) (b : Bracket) (bs : List Bracket) → run (fresh b bs) (texts gs) ≡ then gs b bs
@@ -86,8 +86,8 @@ current (in_right ls rs) = rs
 
 -- the text of an open bracket, and a comma if a further form is to follow one
 abbrev opened : Bracket → List Mark
-opened (in_left ls) = open-mark ∷ texts ls
-opened (in_right ls rs) = open-mark ∷ (texts ls ++ (bar ∷ texts rs))
+opened (in_left ls) = open_mark ∷ texts ls
+opened (in_right ls rs) = open_mark ∷ (texts ls ++ (bar ∷ texts rs))
 
 abbrev sep : Forms → List Mark
 sep ∅ = []
@@ -122,10 +122,10 @@ sep_put g (in_left ls) = sep_snoc ls g
 sep_put g (in_right ls rs) = sep_snoc rs g
 
 opened_put : (g : Form) (b : Bracket) → opened (put g b) ≡ opened b ++ (sep (current b) ++ text g)
-opened_put g (in_left ls) = ap (λ t. open-mark ∷ t) (texts_snoc ls g)
+opened_put g (in_left ls) = ap (λ t. open_mark ∷ t) (texts_snoc ls g)
 opened_put g (in_right ls rs) =
-    ap (λ t. open-mark ∷ (texts ls ++ (bar ∷ t))) (texts_snoc rs g)
-    ∙ ap (λ t. open-mark ∷ t) (sym (append_assoc (texts ls) (bar ∷ texts rs) (sep rs ++ text g)))
+    ap (λ t. open_mark ∷ (texts ls ++ (bar ∷ t))) (texts_snoc rs g)
+    ∙ ap (λ t. open_mark ∷ t) (sym (append_assoc (texts ls) (bar ∷ texts rs) (sep rs ++ text g)))
 
 -- what each kind of step takes in
 taken_finish : (g : Form) (bs : List Bracket) (t : List Mark) → outer bs ++ text g ≡ t → Taken (finish g bs) t
@@ -136,22 +136,22 @@ taken_bar : (b : Bracket) (bs : List Bracket) (t : List Mark) → outer bs ++ op
 taken_bar (in_left ls) bs t e = (refl, rw (← e) (simp append_assoc))
 taken_bar (in_right ls rs) bs t e = tt
 
-taken_close : (b : Bracket) (bs : List Bracket) (t : List Mark) → outer bs ++ opened b ≡ t → Taken (end_right b bs) (t ++ (close-mark ∷ []))
+taken_close : (b : Bracket) (bs : List Bracket) (t : List Mark) → outer bs ++ opened b ≡ t → Taken (end_right b bs) (t ++ (close_mark ∷ []))
 taken_close (in_left ls) bs t e = tt
-taken_close (in_right ls rs) bs t e = taken_finish (form ls rs) bs (t ++ (close-mark ∷ [])) (rw (← e) (simp append_assoc))
+taken_close (in_right ls rs) bs t e = taken_finish (form ls rs) bs (t ++ (close_mark ∷ [])) (rw (← e) (simp append_assoc))
 
 taken_next : (q : State) (m : Mark) (t : List Mark) → Taken q t → Taken (next q m) (t ++ (m ∷ []))
-taken_next (wants bs) open-mark t e = (refl, ap (λ u. u ++ (open-mark ∷ [])) e)
+taken_next (wants bs) open_mark t e = (refl, ap (λ u. u ++ (open_mark ∷ [])) e)
 taken_next (wants bs) bar t e = tt
-taken_next (wants bs) close-mark t e = tt
+taken_next (wants bs) close_mark t e = tt
 taken_next (wants bs) comma t e = tt
-taken_next (fresh b bs) open-mark t e = (refl, rw (e.0, append-nil, e.1))
+taken_next (fresh b bs) open_mark t e = (refl, rw (e.0, append-nil, e.1))
 taken_next (fresh b bs) bar t e = taken_bar b bs t e.1
-taken_next (fresh b bs) close-mark t e = taken_close b bs t e.1
+taken_next (fresh b bs) close_mark t e = taken_close b bs t e.1
 taken_next (fresh b bs) comma t e = tt
-taken_next (after b bs) open-mark t e = tt
+taken_next (after b bs) open_mark t e = tt
 taken_next (after b bs) bar t e = taken_bar b bs t e.1
-taken_next (after b bs) close-mark t e = taken_close b bs t e.1
+taken_next (after b bs) close_mark t e = taken_close b bs t e.1
 taken_next (after b bs) comma t e = rw (e.0, ← e.1) (simp append_assoc)
 taken_next (done g) m t e = tt
 taken_next wrong m t e = tt

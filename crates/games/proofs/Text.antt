@@ -3,7 +3,7 @@
 use Rattle.std.proofs.Common.{◌≡◌, ℕ, cond, eqb, List, [], ◌∷◌, map, refl, ap, ap₂}
 use mathlib.Core.Option.{Option, none, some}
 use Rattle.games.specs.Form.{Form}
-use Rattle.games.specs.Text.{Mark, open-mark, bar, close-mark, comma, byte, text, bytes}
+use Rattle.games.specs.Text.{Mark, open_mark, bar, close_mark, comma, byte, text, bytes}
 use Rattle.games.proofs.Reader.{read}
 use Rattle.games.proofs.Reading.{read_text}
 
@@ -17,12 +17,12 @@ text_injective g h e =
 
 -- the mark of a byte
 abbrev pub mark : ℕ → Option Mark
-mark n = cond (eqb n 123) (some open-mark) (cond (eqb n 124) (some bar) (cond (eqb n 125) (some close-mark) (cond (eqb n 44) (some comma) none)))
+mark n = cond (eqb n 123) (some open_mark) (cond (eqb n 124) (some bar) (cond (eqb n 125) (some close_mark) (cond (eqb n 44) (some comma) none)))
 
 pub mark_byte : (m : Mark) → mark (byte m) ≡ some m
-mark_byte open-mark = refl
+mark_byte open_mark = refl
 mark_byte bar = refl
-mark_byte close-mark = refl
+mark_byte close_mark = refl
 mark_byte comma = refl
 
 byte_injective : (m n : Mark) → byte m ≡ byte n → m ≡ n

@@ -5,17 +5,17 @@ use Rattle.games.specs.Form.{Form, Forms, form, ∅, ◌&◌}
 
 -- the four marks that a text is made of, and their bytes
 pub data Mark : Type 0 where
-  open-mark bar close-mark comma : Mark
+  open_mark bar close_mark comma : Mark
 
 abbrev pub byte : Mark → ℕ
-byte open-mark = 123
+byte open_mark = 123
 byte bar = 124
-byte close-mark = 125
+byte close_mark = 125
 byte comma = 44
 
 abbrev mutual
   pub text : Form → List Mark
-  text (form ls rs) = open-mark ∷ (texts ls ++ (bar ∷ (texts rs ++ (close-mark ∷ []))))
+  text (form ls rs) = open_mark ∷ (texts ls ++ (bar ∷ (texts rs ++ (close_mark ∷ []))))
 
   -- the texts of a list, joined by commas
   pub texts : Forms → List Mark

@@ -81,9 +81,9 @@ module _ (rows : Rows) (l : Lists) where
     walk_found e = walk_from n next (Some n) onward (omega (arith, w.within)) (lowest_here rows l n (omega (arith, w.within)) e)
 
     pub walk_passed : (row_at rows n ≡ l → ⊥) → Walk rows l next found
-    walk_passed no-match =
+    walk_passed no_match =
         walk_from n next found onward (omega (arith, w.within))
-        (lowest_down rows l n (suc n) found (omega arith) (λ k a b e. let same : k ≡ n = omega arith in no-match (ap (row_at rows) (sym same) ∙ e)) w.lowest_so_far)
+        (lowest_down rows l n (suc n) found (omega arith) (λ k a b e. let same : k ≡ n = omega arith in no_match (ap (row_at rows) (sym same) ∙ e)) w.lowest_so_far)
 
 -- the same step, of what the code holds
 module _ (rows : Rows) (l : Lists) (lowers : List (Option ℕ)) (level : length lowers ≡ length rows) (goes : GoesOn rows lowers)

@@ -3,15 +3,15 @@
 use Rattle.std.proofs.Common.{◌≡◌, ℕ, zero, suc, ◌<◌, List, [], ◌∷◌, ◌++◌, map, codes, refl, ap, ◌∙◌, append_assoc, arith}
 use mathlib.Core.Option.{some}
 use Rattle.games.specs.Form.{Form, Forms, form, ∅, ◌&◌}
-use Rattle.games.specs.Text.{bar, close-mark, byte, texts, more, bytes}
+use Rattle.games.specs.Text.{bar, close_mark, byte, texts, more, bytes}
 use Rattle.games.specs.Text.{text as marks}
 use Rattle.games.specs.declared.side.Side.{Side}
 use Rattle.games.specs.declared.side.Side.TheVariants.{Left, Right}
 use Rattle.std.specs.Int.Digits.{AllBelowBase}
 use Rattle.std.proofs.lemmas.List.{map-append}
-use Rattle.lines.specs.Syntax.{Items, Square, vacant, filled, Cell, toad, frog, blank, Colour, for_left, for_right, for-both, Edge, Board, domineering, toads, hackenbush, Subject, plain, minus, sum, written, Line, value, comparison, first_move}
+use Rattle.lines.specs.Syntax.{Items, Square, vacant, filled, Cell, toad, frog, blank, Colour, for_left, for_right, for_both, Edge, Board, domineering, toads, hackenbush, Subject, plain, minus, sum, written, Line, value, comparison, first_move}
 use Rattle.lines.specs.Syntax.{spell_more, spell_items, numeral, spell_square, spell_row, spell_cell, spell_colour, spell_edge, items_of, spell_board, spell_subject, spell_side, spell}
-use Rattle.lines.specs.Machine.{Symbol, just, line, subject, board, side, squares, more-squares, cells, more-cells, from, from-digits, to, to-digits, colour, more_edges, text, in_left, after-left, in_right, after-right, next, run}
+use Rattle.lines.specs.Machine.{Symbol, just, line, subject, board, side, squares, more_squares, cells, more_cells, from, from_digits, to, to_digits, colour, more_edges, text, in_left, after_left, in_right, after_right, next, run}
 use Rattle.lines.proofs.Machine.{run_through, run_word}
 use Rattle.lines.proofs.Numerals.{ascii, numeral_zero, figures, digit_cases}
 use Rattle.lines.proofs.Sound.{rows_text, cells_text, edges_text}
@@ -20,26 +20,26 @@ abbrev pub Emptied : List Symbol → List ℕ → Type 0
 Emptied s t = run (some s) t ≡ some []
 
 -- items
-run_squares : (these : List Square) (u : List ℕ) → run (some (more-squares ∷ [])) (spell_more [] spell_square these ++ u) ≡ run (some (more-squares ∷ [])) u
+run_squares : (these : List Square) (u : List ℕ) → run (some (more_squares ∷ [])) (spell_more [] spell_square these ++ u) ≡ run (some (more_squares ∷ [])) u
 run_squares [] u = refl
 run_squares (vacant ∷ these) u = run_squares these u
 run_squares (filled ∷ these) u = run_squares these u
 
-run_row : (row : Items Square) (u : List ℕ) → run (some (squares ∷ [])) (spell_row row ++ u) ≡ run (some (more-squares ∷ [])) u
+run_row : (row : Items Square) (u : List ℕ) → run (some (squares ∷ [])) (spell_row row ++ u) ≡ run (some (more_squares ∷ [])) u
 run_row row u = go row.first
   where
-    go : (x : Square) → run (some (squares ∷ [])) ((spell_square x ++ spell_more [] spell_square row.more) ++ u) ≡ run (some (more-squares ∷ [])) u
+    go : (x : Square) → run (some (squares ∷ [])) ((spell_square x ++ spell_more [] spell_square row.more) ++ u) ≡ run (some (more_squares ∷ [])) u
     go vacant = run_squares row.more u
     go filled = run_squares row.more u
 
-run_rows : (rows : List (Items Square)) → Emptied (more-squares ∷ []) (rows_text rows)
+run_rows : (rows : List (Items Square)) → Emptied (more_squares ∷ []) (rows_text rows)
 run_rows [] = refl
 run_rows (row ∷ rows) = ap (λ z. run (some (squares ∷ [])) z) (append_assoc (spell_row row) (spell_more (codes "/") spell_row rows) (codes ")")) ∙ (run_row row (rows_text rows) ∙ run_rows rows)
 
 run_all_rows : (rows : Items (Items Square)) → Emptied (squares ∷ []) (spell_items (codes "/") spell_row rows ++ codes ")")
 run_all_rows rows = run_rows (rows.first ∷ rows.more)
 
-run_cells : (these : List Cell) → Emptied (more-cells ∷ []) (cells_text these)
+run_cells : (these : List Cell) → Emptied (more_cells ∷ []) (cells_text these)
 run_cells [] = refl
 run_cells (toad ∷ these) = run_cells these
 run_cells (frog ∷ these) = run_cells these
@@ -57,17 +57,17 @@ run_all_cells these = go these.first
 abbrev DigitOn : Symbol → Symbol → ℕ → Type 0
 DigitOn x y d = next (x ∷ []) (ascii d) ≡ some (y ∷ [])
 
-from_on : (d : ℕ) → d < 10 → DigitOn from-digits from-digits d
-from_on = digit_cases (DigitOn from-digits from-digits) refl refl refl refl refl refl refl refl refl refl
+from_on : (d : ℕ) → d < 10 → DigitOn from_digits from_digits d
+from_on = digit_cases (DigitOn from_digits from_digits) refl refl refl refl refl refl refl refl refl refl
 
-to_on : (d : ℕ) → d < 10 → DigitOn to-digits to-digits d
-to_on = digit_cases (DigitOn to-digits to-digits) refl refl refl refl refl refl refl refl refl refl
+to_on : (d : ℕ) → d < 10 → DigitOn to_digits to_digits d
+to_on = digit_cases (DigitOn to_digits to_digits) refl refl refl refl refl refl refl refl refl refl
 
-from_first : (d : ℕ) → d < 10 → 0 < d → DigitOn from from-digits d
-from_first = digit_cases (λ d. 0 < d → DigitOn from from-digits d) (λ l. absurd (omega arith)) (λ l. refl) (λ l. refl) (λ l. refl) (λ l. refl) (λ l. refl) (λ l. refl) (λ l. refl) (λ l. refl) (λ l. refl)
+from_first : (d : ℕ) → d < 10 → 0 < d → DigitOn from from_digits d
+from_first = digit_cases (λ d. 0 < d → DigitOn from from_digits d) (λ l. absurd (omega arith)) (λ l. refl) (λ l. refl) (λ l. refl) (λ l. refl) (λ l. refl) (λ l. refl) (λ l. refl) (λ l. refl) (λ l. refl)
 
-to_first : (d : ℕ) → d < 10 → 0 < d → DigitOn to to-digits d
-to_first = digit_cases (λ d. 0 < d → DigitOn to to-digits d) (λ l. absurd (omega arith)) (λ l. refl) (λ l. refl) (λ l. refl) (λ l. refl) (λ l. refl) (λ l. refl) (λ l. refl) (λ l. refl) (λ l. refl)
+to_first : (d : ℕ) → d < 10 → 0 < d → DigitOn to to_digits d
+to_first = digit_cases (λ d. 0 < d → DigitOn to to_digits d) (λ l. absurd (omega arith)) (λ l. refl) (λ l. refl) (λ l. refl) (λ l. refl) (λ l. refl) (λ l. refl) (λ l. refl) (λ l. refl) (λ l. refl)
 
 run_digits : (x : Symbol) → ((d : ℕ) → d < 10 → DigitOn x x d) → (ds u : List ℕ) → AllBelowBase 10 ds → run (some (x ∷ [])) (map ascii ds ++ u) ≡ run (some (x ∷ [])) u
 run_digits x f [] u h = refl
@@ -82,7 +82,7 @@ run_positive x y f g n p u =
 
 run_from : (n : ℕ) (u : List ℕ) → run (some (from ∷ [])) (numeral n ++ (45 ∷ u)) ≡ run (some (to ∷ [])) u
 run_from zero u = ap (λ z. run (some (from ∷ [])) (z ++ (45 ∷ u))) numeral_zero
-run_from (suc n) u = run_positive from from-digits from_first from_on (suc n) (omega arith) (45 ∷ u)
+run_from (suc n) u = run_positive from from_digits from_first from_on (suc n) (omega arith) (45 ∷ u)
 
 run_to : (n : ℕ) (c : Colour) (u : List ℕ) → run (some (to ∷ [])) (numeral n ++ (spell_colour c ++ u)) ≡ run (some (more_edges ∷ [])) u
 run_to zero c u = ap (λ z. run (some (to ∷ [])) (z ++ (spell_colour c ++ u))) numeral_zero ∙ go c
@@ -90,13 +90,13 @@ run_to zero c u = ap (λ z. run (some (to ∷ [])) (z ++ (spell_colour c ++ u)))
     go : (d : Colour) → run (some (colour ∷ [])) (spell_colour d ++ u) ≡ run (some (more_edges ∷ [])) u
     go for_left = refl
     go for_right = refl
-    go for-both = refl
-run_to (suc n) c u = run_positive to to-digits to_first to_on (suc n) (omega arith) (spell_colour c ++ u) ∙ go c
+    go for_both = refl
+run_to (suc n) c u = run_positive to to_digits to_first to_on (suc n) (omega arith) (spell_colour c ++ u) ∙ go c
   where
-    go : (d : Colour) → run (some (to-digits ∷ [])) (spell_colour d ++ u) ≡ run (some (more_edges ∷ [])) u
+    go : (d : Colour) → run (some (to_digits ∷ [])) (spell_colour d ++ u) ≡ run (some (more_edges ∷ [])) u
     go for_left = refl
     go for_right = refl
-    go for-both = refl
+    go for_both = refl
 
 run_edge : (e : Edge) (u : List ℕ) → run (some (from ∷ [])) (spell_edge e ++ u) ≡ run (some (more_edges ∷ [])) u
 run_edge e u = simp append_assoc (run_from e.from (numeral e.to ++ (spell_colour e.colour ++ u)) ∙ run_to e.to e.colour u)
@@ -110,7 +110,7 @@ run_all_edges edges = run_edges (edges.first ∷ edges.more)
 
 -- texts: what stands behind the opening bracket
 abbrev inner : Form → List ℕ
-inner (form ls rs) = map byte (texts ls ++ (bar ∷ (texts rs ++ (close-mark ∷ []))))
+inner (form ls rs) = map byte (texts ls ++ (bar ∷ (texts rs ++ (close_mark ∷ []))))
 
 whole : (g : Form) → Emptied (in_left ∷ []) (inner g) → Emptied (text ∷ []) (bytes g)
 whole (form ls rs) e = e
@@ -122,9 +122,9 @@ entered (form ls rs) x y e h u = ap (λ q. run q (inner (form ls rs) ++ u)) e �
 mutual
   run_inner : (g : Form) → Emptied (in_left ∷ []) (inner g)
   run_inner (form ls rs) =
-      ap (λ z. run (some (in_left ∷ [])) z) (map-append byte (texts ls) (bar ∷ (texts rs ++ (close-mark ∷ []))))
-      ∙ (run_list ls in_left after-left 124 (map byte (texts rs ++ (close-mark ∷ []))) refl refl refl
-      ∙ (ap (λ z. run (some (in_right ∷ [])) z) (map-append byte (texts rs) (close-mark ∷ [])) ∙ run_list rs in_right after-right 125 [] refl refl refl))
+      ap (λ z. run (some (in_left ∷ [])) z) (map-append byte (texts ls) (bar ∷ (texts rs ++ (close_mark ∷ []))))
+      ∙ (run_list ls in_left after_left 124 (map byte (texts rs ++ (close_mark ∷ []))) refl refl refl
+      ∙ (ap (λ z. run (some (in_right ∷ [])) z) (map-append byte (texts rs) (close_mark ∷ [])) ∙ run_list rs in_right after_right 125 [] refl refl refl))
 
   run_list : (gs : Forms) (x y : Symbol) (b : ℕ) (u : List ℕ) → next (x ∷ []) 123 ≡ some (in_left ∷ y ∷ []) → next (y ∷ []) 44 ≡ some (text ∷ y ∷ []) → next (x ∷ []) b ≡ next (y ∷ []) b
       → run (some (x ∷ [])) (map byte (texts gs) ++ (b ∷ u)) ≡ run (next (y ∷ []) b) u

@@ -3,7 +3,7 @@
 use Rattle.std.proofs.Common.{◌≡◌, ℕ, suc, ◌+◌, ◌≤◌, Bool, true, false, cond, not, ◌&&◌, eqb, List, [], ◌∷◌, ◌++◌, refl, ap, subst, ap₂, arith}
 use mathlib.Core.Option.{Option, none, some}
 use Rattle.calls.specs.Texts.{times, nesting}
-use Rattle.lines.specs.Machine.{Symbol, just, line, line_word, subject, subject-word, board, board-word, side, squares, more-squares, cells, more-cells, from, from-digits, to, to-digits, colour, more_edges, text, in_left, after-left, in_right, after-right, rules, pick, onto, next, run}
+use Rattle.lines.specs.Machine.{Symbol, just, line, line_word, subject, subject_word, board, board_word, side, squares, more_squares, cells, more_cells, from, from_digits, to, to_digits, colour, more_edges, text, in_left, after_left, in_right, after_right, rules, pick, onto, next, run}
 use Rattle.lines.specs.Machine.{weight, depth}
 use Rattle.lines.proofs.Machine.{never_some, Each, picked}
 
@@ -19,25 +19,25 @@ quiet (just b) = not (eqb 123 b) && not (eqb 125 b)
 quiet line = true
 quiet line_word = true
 quiet subject = true
-quiet subject-word = true
+quiet subject_word = true
 quiet board = true
-quiet board-word = true
+quiet board_word = true
 quiet side = true
 quiet squares = true
-quiet more-squares = true
+quiet more_squares = true
 quiet cells = true
-quiet more-cells = true
+quiet more_cells = true
 quiet from = true
-quiet from-digits = true
+quiet from_digits = true
 quiet to = true
-quiet to-digits = true
+quiet to_digits = true
 quiet colour = true
 quiet more_edges = true
 quiet text = true
 quiet in_left = true
-quiet after-left = true
+quiet after_left = true
 quiet in_right = true
-quiet after-right = true
+quiet after_right = true
 
 abbrev all_quiet : List Symbol → Bool
 all_quiet [] = true
@@ -71,25 +71,25 @@ balanced (just b) q = ((refl, go (eqb 123 b) (eqb 125 b) q), tt)
 balanced line q = (same, tt)
 balanced line_word q = (same, (same, (same, tt)))
 balanced subject q = (same, tt)
-balanced subject-word q = (same, (same, (same, (same, (same, (same, tt))))))
+balanced subject_word q = (same, (same, (same, (same, (same, (same, tt))))))
 balanced board q = (same, tt)
-balanced board-word q = (same, (same, (same, tt)))
+balanced board_word q = (same, (same, (same, tt)))
 balanced side q = (same, (same, tt))
 balanced squares q = (same, (same, tt))
-balanced more-squares q = (same, (same, (same, (same, tt))))
+balanced more_squares q = (same, (same, (same, (same, tt))))
 balanced cells q = (same, (same, (same, tt)))
-balanced more-cells q = (same, (same, (same, (same, tt))))
+balanced more_cells q = (same, (same, (same, (same, tt))))
 balanced from q = (same, (same, (same, (same, (same, (same, (same, (same, (same, (same, tt))))))))))
-balanced from-digits q = (same, (same, (same, (same, (same, (same, (same, (same, (same, (same, (same, tt)))))))))))
+balanced from_digits q = (same, (same, (same, (same, (same, (same, (same, (same, (same, (same, (same, tt)))))))))))
 balanced to q = (same, (same, (same, (same, (same, (same, (same, (same, (same, (same, tt))))))))))
-balanced to-digits q = (same, (same, (same, (same, (same, (same, (same, (same, (same, (same, (same, (same, (same, tt)))))))))))))
+balanced to_digits q = (same, (same, (same, (same, (same, (same, (same, (same, (same, (same, (same, (same, (same, tt)))))))))))))
 balanced colour q = (same, (same, (same, tt)))
 balanced more_edges q = (same, (same, tt))
 balanced text q = (same, tt)
 balanced in_left q = (same, (same, tt))
-balanced after-left q = (same, (same, tt))
+balanced after_left q = (same, (same, tt))
 balanced in_right q = (same, (same, tt))
-balanced after-right q = (same, (same, tt))
+balanced after_right q = (same, (same, tt))
 
 next_balanced : (s s' : List Symbol) (b : ℕ) → all_quiet s ≡ true → next s b ≡ some s' → (all_quiet s' ≡ true) × (depth s + opens b ≡ depth s' + closes b)
 next_balanced [] s' b q e = let z : ◌≡◌ {A = ℕ} 0 1 = cc in absurd (omega arith)

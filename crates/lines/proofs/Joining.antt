@@ -30,7 +30,7 @@ module _ {t t' : List ℕ} {i j : ℕ} {s : List Symbol} {y : Symbol} {v : List 
       fails_after a (fails_wrong t j y [] m (ap (next (y ∷ [])) (ap (λ z. get_or z j 0) (sym same) ∙ sym e) ∙ n))
 
   -- its first letter b was seen; u are the letters that the reader takes
-  module _ (b : ℕ) (l : j < length t') (e : b ≡ get_or t' j 0) (w u : List ℕ) (eu : u ≡ w) (ew : b ≡ get_or w 0 0) (some-letter : 1 ≤ length w) (rest : List Symbol) (d : depth rest ≡ 0) (n : next (y ∷ []) (get_or w 0 0) ≡ some (letters (drop 1 w) ++ rest)) where
+  module _ (b : ℕ) (l : j < length t') (e : b ≡ get_or t' j 0) (w u : List ℕ) (eu : u ≡ w) (ew : b ≡ get_or w 0 0) (some_letter : 1 ≤ length w) (rest : List Symbol) (d : depth rest ≡ 0) (n : next (y ∷ []) (get_or w 0 0) ≡ some (letters (drop 1 w) ++ rest)) where
     first_letter : Goes t i (j + 1) s (letters (drop 1 w) ++ rest) (v ++ (get_or w 0 0 ∷ []))
     first_letter =
         let m : j < length t = rw same at l in
@@ -45,5 +45,5 @@ module _ {t t' : List ℕ} {i j : ℕ} {s : List Symbol} {y : Symbol} {v : List 
     pub word_goes : {k : ℕ} → Goes t' (j + 1) k (letters (drop 1 u)) [] (drop 1 u) → Goes t i k s rest (v ++ w)
     word_goes {k} h =
         let g : Goes t (j + 1) k (letters (drop 1 w)) [] (drop 1 w) = subst (λ z. Goes t (j + 1) k (letters (drop 1 z)) [] (drop 1 z)) eu (goes_line same h) in
-        let q : (v ++ (get_or w 0 0 ∷ [])) ++ drop 1 w ≡ v ++ w = append_assoc v (get_or w 0 0 ∷ []) (drop 1 w) ∙ ap (λ z. v ++ z) (sym (drop_more w 0 0 some-letter)) in
+        let q : (v ++ (get_or w 0 0 ∷ [])) ++ drop 1 w ≡ v ++ w = append_assoc v (get_or w 0 0 ∷ []) (drop 1 w) ∙ ap (λ z. v ++ z) (sym (drop_more w 0 0 some_letter)) in
         subst (λ z. Goes t i k s rest z) q (goes_++ first_letter (goes_under rest d g))

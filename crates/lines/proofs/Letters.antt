@@ -4,7 +4,7 @@ use Rattle.std.proofs.Common.{◌≡◌, ◌≤◌, [], ◌∷◌, ◌++◌, len
 use mathlib.Core.Option.{some}
 use Rattle.games.specs.declared.side.Side.{Side}
 use Rattle.games.specs.declared.side.Side.TheVariants.{Left, Right}
-use Rattle.lines.specs.Machine.{line_word, subject-word, board-word, side, letters, next, depth}
+use Rattle.lines.specs.Machine.{line_word, subject_word, board_word, side, letters, next, depth}
 use Rattle.lines.specs.Syntax.{spell_side}
 use Rattle.lines.specs.Spots.{symbols}
 use Rattle.lines.specs.Words.{kind_word, kind_spot, heading_word, heading_rest, ask_word, ask_rest}
@@ -23,7 +23,7 @@ pub side_spelt : (s : Side) → get_or (spell_side s) 0 0 ∷ [] ≡ spell_side 
 side_spelt Left = refl
 side_spelt Right = refl
 
-pub kind_begins : (kind : Kind) → next (board-word ∷ []) (get_or (kind_word kind) 0 0) ≡ some (letters (drop 1 (kind_word kind)) ++ symbols (kind_spot kind))
+pub kind_begins : (kind : Kind) → next (board_word ∷ []) (get_or (kind_word kind) 0 0) ≡ some (letters (drop 1 (kind_word kind)) ++ symbols (kind_spot kind))
 kind_begins Domineering = refl
 kind_begins Toads = refl
 kind_begins Hackenbush = refl
@@ -38,7 +38,7 @@ kind_quiet Domineering = refl
 kind_quiet Toads = refl
 kind_quiet Hackenbush = refl
 
-pub heading_begins : (heading : Heading) → next (subject-word ∷ []) (get_or (heading_word heading) 0 0) ≡ some (letters (drop 1 (heading_word heading)) ++ heading_rest heading)
+pub heading_begins : (heading : Heading) → next (subject_word ∷ []) (get_or (heading_word heading) 0 0) ≡ some (letters (drop 1 (heading_word heading)) ++ heading_rest heading)
 heading_begins Minus = refl
 heading_begins Sum = refl
 heading_begins Form = refl

@@ -3,7 +3,7 @@
 use Rattle.std.proofs.Common.{◌≡◌, ℕ, Bool, true, false, cond, eqb, List, [], ◌∷◌, ◌++◌, codes, sym, refl, ap, ◌∙◌, subst, append_assoc, arith}
 use mathlib.Core.Option.{Option, none, some}
 use Rattle.std.proofs.lemmas.Bool.{eqb-true, eq-eqb}
-use Rattle.lines.specs.Machine.{Symbol, just, line, line_word, subject, subject-word, board, board-word, side, squares, more-squares, cells, more-cells, from, from-digits, to, to-digits, colour, more_edges, text, in_left, after-left, in_right, after-right, letters, rules, pick, onto, next, step, run}
+use Rattle.lines.specs.Machine.{Symbol, just, line, line_word, subject, subject_word, board, board_word, side, squares, more_squares, cells, more_cells, from, from_digits, to, to_digits, colour, more_edges, text, in_left, after_left, in_right, after_right, letters, rules, pick, onto, next, step, run}
 
 pub run_++ : (q : Option (List Symbol)) (a b : List ℕ) → run q (a ++ b) ≡ run (run q a) b
 run_++ q [] b = refl
@@ -56,25 +56,25 @@ sample (just b) = b ∷ []
 sample line = codes "(value (toads T))"
 sample line_word = codes "value (toads T))"
 sample subject = codes "(toads T)"
-sample subject-word = codes "toads T)"
+sample subject_word = codes "toads T)"
 sample board = codes "(toads T)"
-sample board-word = codes "toads T)"
+sample board_word = codes "toads T)"
 sample side = codes "L"
 sample squares = codes ".)"
-sample more-squares = codes ")"
+sample more_squares = codes ")"
 sample cells = codes "T)"
-sample more-cells = codes ")"
+sample more_cells = codes ")"
 sample from = codes "0-0L)"
-sample from-digits = codes "-0L)"
+sample from_digits = codes "-0L)"
 sample to = codes "0L)"
-sample to-digits = codes "L)"
+sample to_digits = codes "L)"
 sample colour = codes "L)"
 sample more_edges = codes ")"
 sample text = codes "{|}"
 sample in_left = codes "|}"
-sample after-left = codes "|}"
+sample after_left = codes "|}"
 sample in_right = codes "}"
-sample after-right = codes "}"
+sample after_right = codes "}"
 
 pub run_just : (b : ℕ) (k : List Symbol) → next (just b ∷ k) b ≡ some k
 run_just b k = ap (λ c. onto (cond c (some []) none) k) (eq-eqb b b refl)
@@ -84,25 +84,25 @@ sample_runs (just b) = run_just b []
 sample_runs line = refl
 sample_runs line_word = refl
 sample_runs subject = refl
-sample_runs subject-word = refl
+sample_runs subject_word = refl
 sample_runs board = refl
-sample_runs board-word = refl
+sample_runs board_word = refl
 sample_runs side = refl
 sample_runs squares = refl
-sample_runs more-squares = refl
+sample_runs more_squares = refl
 sample_runs cells = refl
-sample_runs more-cells = refl
+sample_runs more_cells = refl
 sample_runs from = refl
-sample_runs from-digits = refl
+sample_runs from_digits = refl
 sample_runs to = refl
-sample_runs to-digits = refl
+sample_runs to_digits = refl
 sample_runs colour = refl
 sample_runs more_edges = refl
 sample_runs text = refl
 sample_runs in_left = refl
-sample_runs after-left = refl
+sample_runs after_left = refl
 sample_runs in_right = refl
-sample_runs after-right = refl
+sample_runs after_right = refl
 
 pub completes : (s : List Symbol) → (t : List ℕ) × (run (some s) t ≡ some [])
 completes [] = ([], refl)

@@ -10,7 +10,7 @@ use Rattle.lines.specs.Machine.{Symbol, just, line, squares, cells, from, depth,
 use Rattle.lines.specs.Questions.{Faulty, DescribesPart, kind_of, DescribesBoard, a_plain, a_minus, a_sum, a_form, DescribesSubject, a_value, a_comparison, a_first_move}
 use Rattle.lines.specs.Reading.{Goes, Fails, ItemsRead, TextRead, BoardRead, BoardRest, SubjectRead, ContentRest, QuestionRest, QuestionRead}
 use Rattle.lines.specs.Spots.{symbols}
-use Rattle.lines.specs.Syntax.{Board, domineering, toads, hackenbush, plain, minus, sum, written, Line, value, comparison, first_move, spell, heading as heading-of, items_of, spell_board, spell_subject, spell_side}
+use Rattle.lines.specs.Syntax.{Board, domineering, toads, hackenbush, plain, minus, sum, written, Line, value, comparison, first_move, spell, heading as heading_of, items_of, spell_board, spell_subject, spell_side}
 use Rattle.lines.specs.Words.{kind_word, kind_spot, heading_word, heading_rest, ask_word}
 use Rattle.lines.specs.declared.fault.LineFault.{LineFault}
 use Rattle.lines.specs.declared.fault.LineFault.TheVariants.{WrongByte}
@@ -79,11 +79,11 @@ tail {A} {t} {t'} {i} {j} {s} {rest} {u} m answer P Q e g h c =
     MatchResult-weaker answer c (λ a (w, k, p). (u ++ w, goes_++ g (goes_line e k), h a w p)) (λ f k. fails_after g (fails_line e k))
 
 -- boards
-described : (b : Board) (place i : ℕ) (part : Part) (w u : List ℕ) → w ≡ u ++ codes ")" → DescribesPart i part u → items_of b ++ codes ")" ≡ w → i ≡ place + length (heading-of b)
+described : (b : Board) (place i : ℕ) (part : Part) (w u : List ℕ) → w ≡ u ++ codes ")" → DescribesPart i part u → items_of b ++ codes ")" ≡ w → i ≡ place + length (heading_of b)
     → DescribesBoard place (record { place = place; kind = kind_of b; items = part }) b
 described b place i part w u e d f p =
     let g : u ≡ items_of b = append_cancel_right u (items_of b) (codes ")") (sym e ∙ sym f) in
-    record { begins = refl; kind = refl; items = subst (λ z. DescribesPart (place + length (heading-of b)) part z) g (subst (λ z. DescribesPart z part u) p d) }
+    record { begins = refl; kind = refl; items = subst (λ z. DescribesPart (place + length (heading_of b)) part z) g (subst (λ z. DescribesPart z part u) p d) }
 
 pub board_of : (kind : Kind) (place i : ℕ) (part : Part) (w : List ℕ) → ItemsRead (symbols (kind_spot kind)) i part w → BoardRest place kind i (record { place = place; kind = kind; items = part }) w
 board_of Domineering place i part w (u, e, d, r) =

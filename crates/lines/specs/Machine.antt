@@ -7,10 +7,10 @@ use Rattle.calls.specs.Texts.{Shallow}
 
 pub data Symbol : Type 0 where
   just : ℕ → Symbol  -- just this byte
-  line line_word subject subject-word board board-word side : Symbol  -- a word: past the opening bracket
-  squares more-squares cells more-cells : Symbol  -- items up to the closing bracket, or more of them
-  from from-digits to to-digits colour more_edges : Symbol  -- places in an edge
-  text in_left after-left in_right after-right : Symbol  -- a text, or the rest of one: in a list, or after an option of it
+  line line_word subject subject_word board board_word side : Symbol  -- a word: past the opening bracket
+  squares more_squares cells more_cells : Symbol  -- items up to the closing bracket, or more of them
+  from from_digits to to_digits colour more_edges : Symbol  -- places in an edge
+  text in_left after_left in_right after_right : Symbol  -- a text, or the rest of one: in a list, or after an option of it
 
 abbrev pub letters : List ℕ → List Symbol
 letters w = map just w
@@ -33,26 +33,26 @@ abbrev pub rules : Symbol → List (ℕ × List Symbol)
 rules (just b) = (b, []) ∷ []
 rules line = (40, line_word ∷ []) ∷ []
 rules line_word = (118, letters (codes "alue ") ++ (subject ∷ just 41 ∷ [])) ∷ (99, letters (codes "ompare ") ++ (subject ∷ just 32 ∷ subject ∷ just 41 ∷ [])) ∷ (109, letters (codes "ove ") ++ (side ∷ just 32 ∷ board ∷ just 41 ∷ [])) ∷ []
-rules subject = (40, subject-word ∷ []) ∷ []
-rules subject-word = (109, letters (codes "inus ") ++ (board ∷ just 41 ∷ [])) ∷ (115, letters (codes "um ") ++ (board ∷ just 32 ∷ board ∷ just 41 ∷ [])) ∷ (102, letters (codes "orm ") ++ (text ∷ just 41 ∷ [])) ∷ board_rules
-rules board = (40, board-word ∷ []) ∷ []
-rules board-word = board_rules
+rules subject = (40, subject_word ∷ []) ∷ []
+rules subject_word = (109, letters (codes "inus ") ++ (board ∷ just 41 ∷ [])) ∷ (115, letters (codes "um ") ++ (board ∷ just 32 ∷ board ∷ just 41 ∷ [])) ∷ (102, letters (codes "orm ") ++ (text ∷ just 41 ∷ [])) ∷ board_rules
+rules board = (40, board_word ∷ []) ∷ []
+rules board_word = board_rules
 rules side = (76, []) ∷ (82, []) ∷ []
-rules squares = (46, more-squares ∷ []) ∷ (35, more-squares ∷ []) ∷ []
-rules more-squares = (46, more-squares ∷ []) ∷ (35, more-squares ∷ []) ∷ (47, squares ∷ []) ∷ (41, []) ∷ []
-rules cells = (84, more-cells ∷ []) ∷ (70, more-cells ∷ []) ∷ (46, more-cells ∷ []) ∷ []
-rules more-cells = (84, more-cells ∷ []) ∷ (70, more-cells ∷ []) ∷ (46, more-cells ∷ []) ∷ (41, []) ∷ []
-rules from = (48, just 45 ∷ to ∷ []) ∷ nonzero_then (from-digits ∷ [])
-rules from-digits = (45, to ∷ []) ∷ digit_then (from-digits ∷ [])
-rules to = (48, colour ∷ []) ∷ nonzero_then (to-digits ∷ [])
-rules to-digits = (76, more_edges ∷ []) ∷ (82, more_edges ∷ []) ∷ (66, more_edges ∷ []) ∷ digit_then (to-digits ∷ [])
+rules squares = (46, more_squares ∷ []) ∷ (35, more_squares ∷ []) ∷ []
+rules more_squares = (46, more_squares ∷ []) ∷ (35, more_squares ∷ []) ∷ (47, squares ∷ []) ∷ (41, []) ∷ []
+rules cells = (84, more_cells ∷ []) ∷ (70, more_cells ∷ []) ∷ (46, more_cells ∷ []) ∷ []
+rules more_cells = (84, more_cells ∷ []) ∷ (70, more_cells ∷ []) ∷ (46, more_cells ∷ []) ∷ (41, []) ∷ []
+rules from = (48, just 45 ∷ to ∷ []) ∷ nonzero_then (from_digits ∷ [])
+rules from_digits = (45, to ∷ []) ∷ digit_then (from_digits ∷ [])
+rules to = (48, colour ∷ []) ∷ nonzero_then (to_digits ∷ [])
+rules to_digits = (76, more_edges ∷ []) ∷ (82, more_edges ∷ []) ∷ (66, more_edges ∷ []) ∷ digit_then (to_digits ∷ [])
 rules colour = colour_then (more_edges ∷ [])
 rules more_edges = (44, from ∷ []) ∷ (41, []) ∷ []
 rules text = (123, in_left ∷ []) ∷ []
-rules in_left = (123, in_left ∷ after-left ∷ []) ∷ (124, in_right ∷ []) ∷ []
-rules after-left = (44, text ∷ after-left ∷ []) ∷ (124, in_right ∷ []) ∷ []
-rules in_right = (123, in_left ∷ after-right ∷ []) ∷ (125, []) ∷ []
-rules after-right = (44, text ∷ after-right ∷ []) ∷ (125, []) ∷ []
+rules in_left = (123, in_left ∷ after_left ∷ []) ∷ (124, in_right ∷ []) ∷ []
+rules after_left = (44, text ∷ after_left ∷ []) ∷ (124, in_right ∷ []) ∷ []
+rules in_right = (123, in_left ∷ after_right ∷ []) ∷ (125, []) ∷ []
+rules after_right = (44, text ∷ after_right ∷ []) ∷ (125, []) ∷ []
 
 abbrev pub pick : ℕ → List (ℕ × List Symbol) → Option (List Symbol)
 pick b [] = none
@@ -81,25 +81,25 @@ weight (just b) = 0
 weight line = 0
 weight line_word = 0
 weight subject = 0
-weight subject-word = 0
+weight subject_word = 0
 weight board = 0
-weight board-word = 0
+weight board_word = 0
 weight side = 0
 weight squares = 0
-weight more-squares = 0
+weight more_squares = 0
 weight cells = 0
-weight more-cells = 0
+weight more_cells = 0
 weight from = 0
-weight from-digits = 0
+weight from_digits = 0
 weight to = 0
-weight to-digits = 0
+weight to_digits = 0
 weight colour = 0
 weight more_edges = 0
 weight text = 0
 weight in_left = 1
-weight after-left = 1
+weight after_left = 1
 weight in_right = 1
-weight after-right = 1
+weight after_right = 1
 
 abbrev pub depth : List Symbol → ℕ
 depth [] = 0

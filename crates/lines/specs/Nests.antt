@@ -4,7 +4,7 @@ use Rattle.std.specs.Prelude.{◌≡◌, ℕ, zero, suc, ◌+◌, ◌/◌, ◌%�
 use Rattle.std.proofs.Math.Option.{none, some}
 use Rattle.games.specs.declared.side.Side.{Side}
 use Rattle.games.specs.declared.side.Side.TheVariants.{Left, Right}
-use Rattle.lines.specs.Machine.{Symbol, text, in_left, after-left, in_right, after-right, next, depth}
+use Rattle.lines.specs.Machine.{Symbol, text, in_left, after_left, in_right, after_right, next, depth}
 use Rattle.lines.specs.declared.nest.TextSpot.{TextSpot}
 use Rattle.lines.specs.declared.nest.TextSpot.TheVariants.{Form, InLeft, AfterLeft, InRight, AfterRight}
 use Rattle.lines.specs.declared.nest.Nest.{Nest}
@@ -14,9 +14,9 @@ use Rattle.lines.specs.declared.nest.NestStep.TheVariants.{On, End, Wrong, TooDe
 abbrev pub symbol : TextSpot → Symbol
 symbol Form = text
 symbol InLeft = in_left
-symbol AfterLeft = after-left
+symbol AfterLeft = after_left
 symbol InRight = in_right
-symbol AfterRight = after-right
+symbol AfterRight = after_right
 
 -- whether a bracket is open here
 abbrev pub weight_of : TextSpot → ℕ
@@ -27,13 +27,13 @@ weight_of InRight = 1
 weight_of AfterRight = 1
 
 abbrev pub after : Side → Symbol
-after Left = after-left
-after Right = after-right
+after Left = after_left
+after Right = after_right
 
 -- the brackets outside, the innermost first
 abbrev pub outers : ℕ → ℕ → List Symbol
 outers zero rights = []
-outers (suc waiting) rights = cond (rights % 2 == 1) after-right after-left ∷ outers waiting (rights / 2)
+outers (suc waiting) rights = cond (rights % 2 == 1) after_right after_left ∷ outers waiting (rights / 2)
 
 abbrev pub stack : Nest → List Symbol
 stack nest = symbol nest.spot ∷ outers nest.waiting nest.rights

@@ -2,7 +2,7 @@
 -- Assumes nothing.
 use Rattle.std.specs.Prelude.{List, [], ◌∷◌}
 use Rattle.std.proofs.Math.Option.{Option, none, some}
-use Rattle.lines.specs.Machine.{Symbol, just, squares, more-squares, cells, more-cells, from, from-digits, to, to-digits, colour, more_edges}
+use Rattle.lines.specs.Machine.{Symbol, just, squares, more_squares, cells, more_cells, from, from_digits, to, to_digits, colour, more_edges}
 use Rattle.lines.specs.declared.spot.EdgeSpot.{EdgeSpot}
 use Rattle.lines.specs.declared.spot.EdgeSpot.TheVariants.{From, Dash, FromDigits, To, Colour, ToDigits, MoreEdges}
 use Rattle.lines.specs.declared.spot.Spot.{Spot}
@@ -13,17 +13,17 @@ use Rattle.lines.specs.declared.spot.Step.TheVariants.{On, End, Wrong}
 abbrev pub edge_symbols : EdgeSpot → List Symbol
 edge_symbols From = from ∷ []
 edge_symbols Dash = just 45 ∷ to ∷ []
-edge_symbols FromDigits = from-digits ∷ []
+edge_symbols FromDigits = from_digits ∷ []
 edge_symbols To = to ∷ []
 edge_symbols Colour = colour ∷ []
-edge_symbols ToDigits = to-digits ∷ []
+edge_symbols ToDigits = to_digits ∷ []
 edge_symbols MoreEdges = more_edges ∷ []
 
 abbrev pub symbols : Spot → List Symbol
 symbols Square = squares ∷ []
-symbols MoreSquares = more-squares ∷ []
+symbols MoreSquares = more_squares ∷ []
 symbols Cell = cells ∷ []
-symbols MoreCells = more-cells ∷ []
+symbols MoreCells = more_cells ∷ []
 symbols (Edge spot) = edge_symbols spot
 
 -- what is to come after a step

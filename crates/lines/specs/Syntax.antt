@@ -22,7 +22,7 @@ pub data Cell : Type 0 where
 
 -- who may cut an edge of a Hackenbush picture
 pub data Colour : Type 0 where
-  for_left for_right for-both : Colour
+  for_left for_right for_both : Colour
 
 -- an edge joins two vertices, which are any numbers
 pub record Edge : Type 0 where
@@ -76,7 +76,7 @@ spell_cell blank = codes "."
 abbrev pub spell_colour : Colour → List ℕ
 spell_colour for_left = codes "L"
 spell_colour for_right = codes "R"
-spell_colour for-both = codes "B"
+spell_colour for_both = codes "B"
 
 abbrev pub spell_edge : Edge → List ℕ
 spell_edge edge = numeral edge.from ++ (codes "-" ++ (numeral edge.to ++ spell_colour edge.colour))

@@ -1,6 +1,6 @@
 // The words of a line: the first letter tells which word comes.
 ghost use Rattle.std.specs.Prelude.{◌≡◌};
-ghost use Rattle.lines.specs.Machine.{board-word, line_word, side, subject-word};
+ghost use Rattle.lines.specs.Machine.{board_word, line_word, side, subject_word};
 ghost use Rattle.lines.specs.Syntax.{spell_side};
 ghost use Rattle.lines.specs.Words.{Begins, ask_word, heading_word, kind_spot, kind_word};
 
@@ -60,7 +60,7 @@ pub enum Heading {
 
 impl Heading {
     pub fn from_letter(letter: u8) -> Option<Heading>
-        ensures { Begins subject-word heading_word letter result }
+        ensures { Begins subject_word heading_word letter result }
     {
         match letter {
             b'm' => Some(Heading::Minus),
@@ -87,7 +87,7 @@ impl Heading {
 
 impl Kind {
     pub fn from_letter(letter: u8) -> Option<Kind>
-        ensures { Begins board-word kind_word letter result }
+        ensures { Begins board_word kind_word letter result }
     {
         match letter {
             b'd' => Some(Kind::Domineering),

@@ -103,11 +103,11 @@ mem_zeros j = rw (at (j / 64)) (bit_none (j % 64))
     at (suc (suc (suc (suc (suc (suc i)))))) = refl
 
 -- a loop that writes f of the old word and the other's: its step
-module _ (f : ℕ → ℕ → ℕ) (old ys cur : List ℕ) (i : ℕ) (in-cur : i < length cur)
+module _ (f : ℕ → ℕ → ℕ) (old ys cur : List ℕ) (i : ℕ) (in_cur : i < length cur)
     (done : (k : ℕ) → k < i → get_or cur k 0 ≡ f (get_or old k 0) (get_or ys k 0)) (left : (k : ℕ) → i ≤ k → get_or cur k 0 ≡ get_or old k 0) where
   pub words_done : (k : ℕ) → k < i + 1 → get_or (set cur i (f (get_or cur i 0) (get_or ys i 0))) k 0 ≡ f (get_or old k 0) (get_or ys k 0)
   words_done k h = elim (cases_eq k i) [
-    | inl e ↦ rw (e, get_or-set_same cur i (f (get_or cur i 0) (get_or ys i 0)) 0 in-cur, left i (omega arith))
+    | inl e ↦ rw (e, get_or-set_same cur i (f (get_or cur i 0) (get_or ys i 0)) 0 in_cur, left i (omega arith))
     | inr n ↦ rw (get_or-set_other cur i k (f (get_or cur i 0) (get_or ys i 0)) 0 n) (done k (omega arith))
   ]
 

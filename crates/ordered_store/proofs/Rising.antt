@@ -106,14 +106,14 @@ module _ (rows : Rows) (xs : List ℕ) (up : Rises rows xs) (l : Lists) (n : ℕ
   halving_start low high e f = record { ordered = omega arith; within = omega arith; below = λ k h. absurd (omega arith); above = λ k h g _. omega arith }
 
   -- the entry in the middle comes first, or does not
-  module _ (low high middle x : ℕ) (w : Halving rows xs l n low high) (a : low ≤ middle) (b : middle < high) (read : x ≡ get_or xs middle 0) (yes-first : Bool) (told : yes-first ≡ is_lt (entry_order (row_at rows x) x l n)) where
-    told_first : yes-first ≡ true → First middle
+  module _ (low high middle x : ℕ) (w : Halving rows xs l n low high) (a : low ≤ middle) (b : middle < high) (read : x ≡ get_or xs middle 0) (yes_first : Bool) (told : yes_first ≡ is_lt (entry_order (row_at rows x) x l n)) where
+    told_first : yes_first ≡ true → First middle
     told_first t = less_from (entry_order (row_at rows (get_or xs middle 0)) (get_or xs middle 0) l n) (ap (λ y. is_lt (entry_order (row_at rows y) y l n)) (sym read) ∙ sym told ∙ t)
 
-    told_not : yes-first ≡ false → First middle → ⊥
+    told_not : yes_first ≡ false → First middle → ⊥
     told_not t f = true≢false (sym (ap is_lt f) ∙ ap (λ y. is_lt (entry_order (row_at rows y) y l n)) (sym read) ∙ sym told ∙ t)
 
-    pub halving_up : yes-first ≡ true → Halving rows xs l n (middle + 1) high
+    pub halving_up : yes_first ≡ true → Halving rows xs l n (middle + 1) high
     halving_up t = record {
       ordered = omega arith;
       within = w.within;
@@ -121,7 +121,7 @@ module _ (rows : Rows) (xs : List ℕ) (up : Rises rows xs) (l : Lists) (n : ℕ
       above = w.above;
     }
 
-    pub halving_down : yes-first ≡ false → Halving rows xs l n low middle
+    pub halving_down : yes_first ≡ false → Halving rows xs l n low middle
     halving_down t = record {
       ordered = a;
       within = omega (arith, w.within);

@@ -5,7 +5,7 @@ use mathlib.Core.Option.{none}
 use native.Mathlib.Decide.{ℕ_discrete}
 use Rattle.std.proofs.lemmas.Bool.{ne_eqb}
 use Rattle.games.specs.Form.{Form}
-use Rattle.games.specs.Text.{open-mark, bar, close-mark, comma, byte}
+use Rattle.games.specs.Text.{open_mark, bar, close_mark, comma, byte}
 use Rattle.games.specs.Text
 use Rattle.games.proofs.Reader.{State, wants, fresh, after, done, wrong, next, result}
 use Rattle.calls.specs.Texts.{Written, Fault}
@@ -40,9 +40,9 @@ mark_is b m e = go (ℕ_discrete b 123) (ℕ_discrete b 124) (ℕ_discrete b 125
         let z : ◌≡◌ {A = ℕ} 0 1 = cc in absurd (omega arith)
 
 pub no_mark_is : (b : ℕ) → None ≡ mark_of b → (m : Text.Mark) → ¬ (byte m ≡ b)
-no_mark_is b e open-mark h = let f = subst (λ x. None ≡ mark_of x) (sym h) e in let z : ◌≡◌ {A = ℕ} 0 1 = cc in omega arith
+no_mark_is b e open_mark h = let f = subst (λ x. None ≡ mark_of x) (sym h) e in let z : ◌≡◌ {A = ℕ} 0 1 = cc in omega arith
 no_mark_is b e bar h = let f = subst (λ x. None ≡ mark_of x) (sym h) e in let z : ◌≡◌ {A = ℕ} 0 1 = cc in omega arith
-no_mark_is b e close-mark h = let f = subst (λ x. None ≡ mark_of x) (sym h) e in let z : ◌≡◌ {A = ℕ} 0 1 = cc in omega arith
+no_mark_is b e close_mark h = let f = subst (λ x. None ≡ mark_of x) (sym h) e in let z : ◌≡◌ {A = ℕ} 0 1 = cc in omega arith
 no_mark_is b e comma h = let f = subst (λ x. None ≡ mark_of x) (sym h) e in let z : ◌≡◌ {A = ℕ} 0 1 = cc in omega arith
 
 stands_alive : (r : Reader) (q : State) → Stands r q → Alive q

@@ -3,7 +3,7 @@
 use Rattle.std.proofs.Common.{◌≡◌, ℕ, ◌+◌, ◌-◌, List, [], ◌∷◌, length, sym, refl, ap, ◌∙◌, subst, arith}
 use Rattle.games.specs.Form.{Form, Forms, ∅}
 use Rattle.games.specs.Numbered.{Lists}
-use Rattle.games.specs.Text.{open-mark, bar, close-mark, comma}
+use Rattle.games.specs.Text.{open_mark, bar, close_mark, comma}
 use Rattle.games.proofs.Reader.{Bracket, in_left, in_right, State, finish, next}
 use Rattle.calls.specs.Rows.{no_numbers}
 use Rattle.calls.proofs.Bracketed.{brackets, outside, closing, put_outside}
@@ -35,12 +35,12 @@ module _ {A : Type 0} (keeps : A → Lists → Type 0) where
     counted : (p : State) → upto g (i + 1) ≡ p → later.count ≡ length (brackets p) → Counted g (i + 1) later
     counted p e k = k ∙ ap (λ s. length (brackets s)) (sym e)
 
-    module _ (x : There g i open-mark) (holds : (bs : List Bracket) (ls : List Lists) → Holds keeps (stack_of frames) bs ls → Holds keeps (stack_of later) (in_left ∅ ∷ bs) (no_numbers ∷ ls)) where
+    module _ (x : There g i open_mark) (holds : (bs : List Bracket) (ls : List Lists) → Holds keeps (stack_of frames) bs ls → Holds keeps (stack_of later) (in_left ∅ ∷ bs) (no_numbers ∷ ls)) where
       pub follow_open : (ls : List Lists) → Follow g i frames ls → Follow g (i + 1) later (no_numbers ∷ ls)
-      follow_open ls h = moved (next q open-mark) (no_numbers ∷ ls) x.moves_on (subst (λ bs. Holds keeps (stack_of later) bs (no_numbers ∷ ls)) (sym (opened q x.alive)) (holds (brackets q) ls h))
+      follow_open ls h = moved (next q open_mark) (no_numbers ∷ ls) x.moves_on (subst (λ bs. Holds keeps (stack_of later) bs (no_numbers ∷ ls)) (sym (opened q x.alive)) (holds (brackets q) ls h))
 
-    pub count_open : There g i open-mark → later.count ≡ frames.count + 1 → Counted g (i + 1) later
-    count_open x e = let l = ap length (opened q x.alive) in counted (next q open-mark) x.moves_on (omega arith)
+    pub count_open : There g i open_mark → later.count ≡ frames.count + 1 → Counted g (i + 1) later
+    count_open x e = let l = ap length (opened q x.alive) in counted (next q open_mark) x.moves_on (omega arith)
 
     module _ (x : There g i bar) (holds : (bs : List Bracket) (ls : List Lists) (gs hs : Forms) → Holds keeps (stack_of frames) (in_left gs ∷ bs) ls → Holds keeps (stack_of later) (in_right gs hs ∷ bs) ls) where
       pub follow_bar : (ls : List Lists) → Follow g i frames ls → Follow g (i + 1) later ls
@@ -55,14 +55,14 @@ module _ {A : Type 0} (keeps : A → Lists → Type 0) where
         let m = ap length s.is in
         counted (next q bar) x.moves_on (omega arith)
 
-    pub count_close : There g i close-mark → later.count ≡ frames.count - 1 → Counted g (i + 1) later
+    pub count_close : There g i close_mark → later.count ≡ frames.count - 1 → Counted g (i + 1) later
     count_close x e =
         let s = shut q x.alive in
         let l = ap length s.was in
         let m = finish_open (closing q) (outside q) in
         counted (finish (closing q) (outside q)) (x.moves_on ∙ s.is) (omega arith)
 
-    pub follow_close : (x : There g i close-mark) (ls : List Lists) (m : ℕ) → ((f : Form) → Holds keeps (stack_of later) (brackets (finish f (outside q))) (put_outside m (outside q) ls)) → Follow g (i + 1) later (put_outside m (outside q) ls)
+    pub follow_close : (x : There g i close_mark) (ls : List Lists) (m : ℕ) → ((f : Form) → Holds keeps (stack_of later) (brackets (finish f (outside q))) (put_outside m (outside q) ls)) → Follow g (i + 1) later (put_outside m (outside q) ls)
     follow_close x ls m h = moved (finish (closing q) (outside q)) (put_outside m (outside q) ls) (x.moves_on ∙ (shut q x.alive).is) (h (closing q))
 
   module _ (g : Form) (i : ℕ) (frames : Frames A) where
@@ -82,7 +82,7 @@ module _ {A : Type 0} (keeps : A → Lists → Type 0) where
       pub held : Holds keeps (stack_of frames) (inside ∷ outside (upto g i)) (numbers ∷ rest)
       pub alone : outside (upto g i) ≡ [] → rest ≡ []
 
-    pub inner : There g i close-mark → (ls : List Lists) → Follow g i frames ls → Inner ls
+    pub inner : There g i close_mark → (ls : List Lists) → Follow g i frames ls → Inner ls
     inner x ls h = split ls (subst (λ bs. Holds keeps (stack_of frames) bs ls) s.was h)
       where
         s : Shut (upto g i)

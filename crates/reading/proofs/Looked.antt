@@ -3,7 +3,7 @@
 use Rattle.std.proofs.Common.{◌≡◌, ℕ, ◌+◌, ◌-◌, ◌<◌, ◌≤◌, List, [], ◌∷◌, length, take, drop, Some, None, Ok, Err, Option, Result, sym, ap, ◌∙◌, subst, ap₂, arith}
 use Rattle.games.specs.Form.{Form, Forms, ∅}
 use Rattle.games.specs.Numbered.{Lists}
-use Rattle.games.specs.Text.{open-mark, bar, close-mark, comma, text}
+use Rattle.games.specs.Text.{open_mark, bar, close_mark, comma, text}
 use Rattle.games.proofs.Reader.{Bracket, in_left, in_right, State, done, finish, next}
 use Rattle.stores.specs.Rows.{Lawful, Finds, lowest}
 use Rattle.stores.proofs.Lowest.{lowest_finds}
@@ -82,10 +82,10 @@ module _ (g : Form) (i : ℕ) (rows : Rows) (u : List ℕ) (frames : Frames Spel
           record { lists = ls; looked = subst (λ r. LookedUp rows r ls) (sym moves_on) l; holds = k; ends = λ d. absurd (not_last (sym moves_on ∙ d)) };
     }
 
-  pub turn_open : There g i open-mark → (later : Frames Spelling) → ((bs : List Bracket) (ls : List Lists) → Holds spelt (stack_of frames) bs ls → Holds spelt (stack_of later) (in_left ∅ ∷ bs) (no_numbers ∷ ls))
+  pub turn_open : There g i open_mark → (later : Frames Spelling) → ((bs : List Bracket) (ls : List Lists) → Holds spelt (stack_of frames) bs ls → Holds spelt (stack_of later) (in_left ∅ ∷ bs) (no_numbers ∷ ls))
       → later.count ≡ frames.count + 1 → Turn g (i + 1) rows u later last
   turn_open x later h n =
-      goes (next q open-mark) x.moves_on (not_open q g) later (count_open spelt g i frames later t.count x n)
+      goes (next q open_mark) x.moves_on (not_open q g) later (count_open spelt g i frames later t.count x n)
       (λ y. (no_numbers ∷ y.lists, look_opens rows q y.lists x.alive y.looked, follow_open spelt g i frames later t.count x h y.lists y.holds))
 
   pub turn_bar : There g i bar → (later : Frames Spelling) → ((bs : List Bracket) (ls : List Lists) (gs hs : Forms) → Holds spelt (stack_of frames) (in_left gs ∷ bs) ls → Holds spelt (stack_of later) (in_right gs hs ∷ bs) ls)
@@ -100,7 +100,7 @@ module _ (g : Form) (i : ℕ) (rows : Rows) (u : List ℕ) (frames : Frames Spel
       (λ y. (y.lists, look_commas rows q y.lists x.alive y.looked, follow_comma spelt g i frames x y.lists y.holds))
 
   -- a bracket closes
-  module _ (x : There g i close-mark) (w : Written u g) (r : Option ℕ) (later : Frames Spelling)
+  module _ (x : There g i close_mark) (w : Written u g) (r : Option ℕ) (later : Frames Spelling)
       (found : (o : Bracket) (bs : List Bracket) (l : Lists) (ls : List Lists) → Holds spelt (stack_of frames) (o ∷ bs) (l ∷ ls) → Found rows l r bs ls later) where
     module _ (s : Sound rows) where
       abbrev z : Inner spelt g i frames (t.so_far s).lists

@@ -5,7 +5,7 @@ use Rattle.std.proofs.lemmas.List.{length-map}
 use Rattle.games.specs.Form.{Form, form}
 use Rattle.games.specs.declared.side.Side.{Side}
 use Rattle.games.specs.declared.side.Side.TheVariants.{Left, Right}
-use Rattle.games.specs.Text.{open-mark, bar, close-mark}
+use Rattle.games.specs.Text.{open_mark, bar, close_mark}
 use Rattle.games.proofs.Reader.{Bracket, in_left, in_right, State, wants, fresh, after, done, wrong, put, finish, next}
 use Rattle.calls.proofs.Bracketed.{brackets}
 use Rattle.calls.proofs.Texts.{Alive}
@@ -43,7 +43,7 @@ module _ (stage : Stage) (sides : List Side) (depth : ℕ) (room : depth ≤ len
   list_ends wrong w s = let h = s.at_stage in let z : ◌≡◌ {A = ℕ} 0 1 = cc in absurd (omega arith)
 
   -- `{`
-  pub opens : (q : State) → (stage ≡ Wants) ⊎ (stage ≡ Fresh) → depth < length sides → StandsAt stage sides depth q → StandsAt Fresh (set sides depth Left) (depth + 1) (next q open-mark)
+  pub opens : (q : State) → (stage ≡ Wants) ⊎ (stage ≡ Fresh) → depth < length sides → StandsAt stage sides depth q → StandsAt Fresh (set sides depth Left) (depth + 1) (next q open_mark)
   opens (wants bs) w l s = record { at_stage = refl; open_sides = stacked_push sides depth Left l ∙ ap (λ ss. Left ∷ ss) s.open_sides }
   opens (fresh b bs) w l s = record { at_stage = refl; open_sides = stacked_push sides depth Left l ∙ ap (λ ss. Left ∷ ss) s.open_sides }
   opens (after b bs) w l s = absurd (never w s.at_stage)
@@ -58,7 +58,7 @@ module _ (stage : Stage) (sides : List Side) (depth : ℕ) (room : depth ≤ len
       never (inr e) h = let z : ◌≡◌ {A = ℕ} 0 1 = cc in omega arith
   opens wrong w l s = let h = s.at_stage in let z : ◌≡◌ {A = ℕ} 0 1 = cc in absurd (omega arith)
 
-  pub opens_deep : (q : State) → (stage ≡ Wants) ⊎ (stage ≡ Fresh) → depth ≡ 96 → StandsAt stage sides depth q → Alive (next q open-mark) × (length (brackets (next q open-mark)) ≡ 97)
+  pub opens_deep : (q : State) → (stage ≡ Wants) ⊎ (stage ≡ Fresh) → depth ≡ 96 → StandsAt stage sides depth q → Alive (next q open_mark) × (length (brackets (next q open_mark)) ≡ 97)
   opens_deep (wants bs) w l s = let h = depth_is (wants bs) s in (tt, omega arith)
   opens_deep (fresh b bs) w l s = let h = depth_is (fresh b bs) s in (tt, omega arith)
   opens_deep (after b bs) w l s = absurd (never w s.at_stage)
@@ -97,11 +97,11 @@ module _ (stage : Stage) (sides : List Side) (depth : ℕ) (room : depth ≤ len
         let k = ap length e in
         record { at_stage = ap Some (sym (inside (omega arith))); open_sides = e ∙ ap (λ s. s ∷ map side_of bs) (sym (same_side g b)) }
 
-    bracket_closes : (b : Bracket) (bs : List Bracket) → Some Right ≡ Some (side_of b) → stacked sides depth ≡ side_of b ∷ map side_of bs → StandsAt later sides (depth - 1) (next (fresh b bs) close-mark)
+    bracket_closes : (b : Bracket) (bs : List Bracket) → Some Right ≡ Some (side_of b) → stacked sides depth ≡ side_of b ∷ map side_of bs → StandsAt later sides (depth - 1) (next (fresh b bs) close_mark)
     bracket_closes (in_left ls) bs e s = let z : ◌≡◌ {A = ℕ} 0 1 = cc in absurd (omega arith)
     bracket_closes (in_right ls rs) bs e s = finishes (form ls rs) bs (top_is (in_right ls rs) bs s).2
 
-    pub closes : (q : State) → Some Right ≡ list_ending q → StandsAt stage sides depth q → StandsAt later sides (depth - 1) (next q close-mark)
+    pub closes : (q : State) → Some Right ≡ list_ending q → StandsAt stage sides depth q → StandsAt later sides (depth - 1) (next q close_mark)
     closes (wants bs) e s = let z : ◌≡◌ {A = ℕ} 0 1 = cc in absurd (omega arith)
     closes (fresh b bs) e s = bracket_closes b bs e s.open_sides
     closes (after b bs) e s = bracket_closes b bs e s.open_sides

@@ -3,7 +3,7 @@
 use Rattle.std.proofs.Common.{◌≡◌, ℕ, ◌+◌, ◌-◌, ◌<◌, ◌≤◌, List, [], ◌∷◌, length, take, drop, Ok, Err, Result, sym, refl, ap, ◌∙◌, subst, arith}
 use Rattle.games.specs.Form.{Form, Forms, ∅}
 use Rattle.games.specs.Numbered.{Lists}
-use Rattle.games.specs.Text.{open-mark, bar, close-mark, comma, text, bytes}
+use Rattle.games.specs.Text.{open_mark, bar, close_mark, comma, text, bytes}
 use Rattle.games.proofs.Reader.{Bracket, in_left, in_right, State, done, finish, next}
 use Rattle.nodesets.specs.declared.pair.Pair.{Pair}
 use Rattle.stores.specs.Rows.{Lawful}
@@ -92,10 +92,10 @@ module _ (g : Form) (i c₀ c : ℕ) (a b : Rows) (ok₀ ok : Type 0) (frames : 
           };
     }
 
-  pub turn_open : There g i open-mark → (later : Frames Pair) → ((bs : List Bracket) (ls : List Lists) → Holds InSets (stack_of frames) bs ls → Holds InSets (stack_of later) (in_left ∅ ∷ bs) (no_numbers ∷ ls))
+  pub turn_open : There g i open_mark → (later : Frames Pair) → ((bs : List Bracket) (ls : List Lists) → Holds InSets (stack_of frames) bs ls → Holds InSets (stack_of later) (in_left ∅ ∷ bs) (no_numbers ∷ ls))
       → later.count ≡ frames.count + 1 → Turn g (i + 1) c₀ c a b ok₀ ok later last
   turn_open x later h n =
-      goes (next q open-mark) x.moves_on (not_open q g) later (count_open InSets g i frames later t.count x n)
+      goes (next q open_mark) x.moves_on (not_open q g) later (count_open InSets g i frames later t.count x n)
       (λ y. (no_numbers ∷ y.lists, read_opens q y.lists x.alive y.read, follow_open InSets g i frames later t.count x h y.lists y.holds))
 
   pub turn_bar : There g i bar → (later : Frames Pair) → ((bs : List Bracket) (ls : List Lists) (gs hs : Forms) → Holds InSets (stack_of frames) (in_left gs ∷ bs) ls → Holds InSets (stack_of later) (in_right gs hs ∷ bs) ls)
@@ -110,7 +110,7 @@ module _ (g : Form) (i c₀ c : ℕ) (a b : Rows) (ok₀ ok : Type 0) (frames : 
       (λ y. (y.lists, read_commas q y.lists x.alive y.read, follow_comma InSets g i frames x y.lists y.holds))
 
   -- a bracket closes
-  module _ (x : There g i close-mark) (c' : ℕ) (d : Rows) (ok' : Type 0) (r : Result ℕ DictionaryFault) (later : Frames Pair)
+  module _ (x : There g i close_mark) (c' : ℕ) (d : Rows) (ok' : Type 0) (r : Result ℕ DictionaryFault) (later : Frames Pair)
       (closed : ok → (o : Bracket) (bs : List Bracket) (l : Lists) (ls : List Lists) → Holds InSets (stack_of frames) (o ∷ bs) (l ∷ ls) → Closed c b l r d bs ls later) where
     module _ (h : ok₀) where
       abbrev y : SoFar g i c₀ a b frames last
@@ -135,7 +135,7 @@ module _ (g : Form) (i c₀ c : ℕ) (a b : Rows) (ok₀ ok : Type 0) (frames : 
         read = subst (λ s. ReadSoFar c₀ a s (put_outside n (outside q) z.rest) d (entry n (closing q) ∷ y.entries)) (sym x.moves_on) (read_closes q z.numbers z.rest n d x.alive before (told_seals n e));
         holds = follow_close InSets g i frames later t.count x z.rest n (it.holds n e);
         ends = λ f.
-            let last_one : next q close-mark ≡ done g = sym x.moves_on ∙ f in
+            let last_one : next q close_mark ≡ done g = sym x.moves_on ∙ f in
             let none_outside : outside q ≡ [] = finish_last (closing q) g (outside q) (sym (shut q x.alive).is ∙ last_one) in
             (_, read_ends q z.numbers g n d (closings 0 (bytes g)) last_one (subst (λ ls. ReadSoFar c₀ a q (z.numbers ∷ ls) b y.entries) (z.alone none_outside) before) (told_seals n e));
       }

@@ -3,7 +3,7 @@
 use Rattle.std.proofs.Common.{◌≡◌, ℕ, ◌+◌, ◌<◌, ◌≤◌, List, [], ◌∷◌, ◌++◌, map, length, get_or, take, drop, Some, None, sym, refl, ap, ◌∙◌, subst, arith}
 use Rattle.std.proofs.lemmas.List.{length-map, length-take, take-map, take_all, take_more, drop_more, take-append-drop, get_or-map}
 use Rattle.games.specs.Form.{Form, Forms, ∅}
-use Rattle.games.specs.Text.{open-mark, bar, close-mark, comma, byte, text}
+use Rattle.games.specs.Text.{open_mark, bar, close_mark, comma, byte, text}
 use Rattle.games.specs.Text
 use Rattle.games.proofs.Reader.{Bracket, in_left, in_right, State, wants, fresh, after, done, wrong, finish, next, run}
 use Rattle.games.proofs.Reading.{run_++}
@@ -46,22 +46,22 @@ module _ (g : Form) (t : List ℕ) (w : Written t g) where
 
   module _ (i : ℕ) (inside : i < length t) where
     abbrev here : Text.Mark
-    here = get_or (text g) i open-mark
+    here = get_or (text g) i open_mark
 
     within : i < length (text g)
     within = let l = same_length in omega arith
 
     byte_here : get_or t i 0 ≡ byte here
-    byte_here = ap (λ u. get_or u i 0) (sym w.by_form) ∙ get_or-map byte (text g) i open-mark 0 within
+    byte_here = ap (λ u. get_or u i 0) (sym w.by_form) ∙ get_or-map byte (text g) i open_mark 0 within
 
     there_here : There g i here
     there_here =
-        let on : upto g (i + 1) ≡ next (upto g i) here = ap at (take_more (text g) i open-mark within) ∙ at_more (take i (text g)) here in
+        let on : upto g (i + 1) ≡ next (upto g i) here = ap at (take_more (text g) i open_mark within) ∙ at_more (take i (text g)) here in
         record {
           moves_on = on;
           alive = subst Alive on (upto_alive (i + 1));
           few = subst (λ q. length (brackets q) ≤ 96) on (upto_few (i + 1));
-          split = sym (take-append-drop i (text g)) ∙ ap (λ r. take i (text g) ++ r) (drop_more (text g) i open-mark within);
+          split = sym (take-append-drop i (text g)) ∙ ap (λ r. take i (text g) ++ r) (drop_more (text g) i open_mark within);
         }
 
     -- the code's mark is the text's
@@ -77,7 +77,7 @@ module _ (g : Form) (t : List ℕ) (w : Written t g) where
     some_mark e = no_mark_is (get_or t i 0) e here (sym byte_here)
 
 -- what each mark does to the open brackets
-pub opened : (q : State) → Alive (next q open-mark) → brackets (next q open-mark) ≡ in_left ∅ ∷ brackets q
+pub opened : (q : State) → Alive (next q open_mark) → brackets (next q open_mark) ≡ in_left ∅ ∷ brackets q
 opened (wants bs) a = refl
 opened (fresh b bs) a = refl
 opened (after b bs) a = absurd a
@@ -108,9 +108,9 @@ comma_same wrong a = absurd a
 pub record Shut (q : State) : Type 0 where
   pub inner : Bracket
   pub was : brackets q ≡ inner ∷ outside q
-  pub is : next q close-mark ≡ finish (closing q) (outside q)
+  pub is : next q close_mark ≡ finish (closing q) (outside q)
 
-pub shut : (q : State) → Alive (next q close-mark) → Shut q
+pub shut : (q : State) → Alive (next q close_mark) → Shut q
 shut (wants bs) a = absurd a
 shut (fresh (in_left ls) bs) a = absurd a
 shut (fresh (in_right ls rs) bs) a = record { inner = in_right ls rs; was = refl; is = refl }
@@ -120,7 +120,7 @@ shut (done g) a = absurd a
 shut wrong a = absurd a
 
 -- only a closing bracket ends the text
-pub not_open : (q : State) (g : Form) → next q open-mark ≡ done g → ⊥
+pub not_open : (q : State) (g : Form) → next q open_mark ≡ done g → ⊥
 not_open (wants bs) g e = let z : ◌≡◌ {A = ℕ} 0 1 = cc in omega arith
 not_open (fresh b bs) g e = let z : ◌≡◌ {A = ℕ} 0 1 = cc in omega arith
 not_open (after b bs) g e = let z : ◌≡◌ {A = ℕ} 0 1 = cc in omega arith
@@ -148,13 +148,13 @@ finish_last h g [] e = refl
 finish_last h g (b ∷ bs) e = let z : ◌≡◌ {A = ℕ} 0 1 = cc in absurd (omega arith)
 
 module _ (g : Form) (i : ℕ) where
-  pub some_room : There g i open-mark → length (brackets (upto g i)) < 96
+  pub some_room : There g i open_mark → length (brackets (upto g i)) < 96
   some_room x = let e = ap length (opened (upto g i) x.alive) in let k = x.few in omega arith
 
   pub some_bar : There g i bar → 0 < length (brackets (upto g i))
   some_bar x = let e = ap length (barred (upto g i) x.alive).was in omega arith
 
-  pub some_close : There g i close-mark → 0 < length (brackets (upto g i))
+  pub some_close : There g i close_mark → 0 < length (brackets (upto g i))
   some_close x = let e = ap length (shut (upto g i) x.alive).was in omega arith
 
 -- at the end of the text the machine has read it

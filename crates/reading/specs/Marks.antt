@@ -7,9 +7,9 @@ use Rattle.reading.specs.declared.mark.Mark.TheVariants.{Open, Bar, Close, Comma
 
 -- the mark that a mark of the code stands for
 abbrev pub meant : Mark → Text.Mark
-meant Open = Text.open-mark
+meant Open = Text.open_mark
 meant Bar = Text.bar
-meant Close = Text.close-mark
+meant Close = Text.close_mark
 meant Comma = Text.comma
 
 -- the mark of a byte, if it is one's

@@ -44,7 +44,7 @@ options_eq : (rows : List Row) (i : ℕ) (r : Row) → i < length rows → r ≡
 options_eq rows i r h e = get_or-map (λ r. by r.options) rows i r none h ∙ ap (λ (x : Row). by x.options) (sym e)
 
 module _ (t : Nodes) (ks : List ℕ) (k : ℕ) (there : k < vec_len t.rows) (below : all_below k ks ≡ true) (complete : Complete k ks) (rises : Rises (links t) ks)
-    (i : ℕ) (at : i < length ks) (a b : Row) (a-is : a ≡ get_or (vec_items t.rows) k a) (b-is : b ≡ get_or (vec_items t.rows) (get_or ks i 0) b) (r : Ordering) (r-is : r ≡ pair_order (by a.options) (by b.options) ks) where
+    (i : ℕ) (at : i < length ks) (a b : Row) (a_is : a ≡ get_or (vec_items t.rows) k a) (b_is : b ≡ get_or (vec_items t.rows) (get_or ks i 0) b) (r : Ordering) (r_is : r ≡ pair_order (by a.options) (by b.options) ks) where
   lower_one : get_or ks i 0 < k
   lower_one = below_at k ks i below at
 
@@ -55,8 +55,8 @@ module _ (t : Nodes) (ks : List ℕ) (k : ℕ) (there : k < vec_len t.rows) (bel
   compared =
       let l = lower_one in
       let h = there_links t k there in
-      r-is
-      ∙ ap₂ (λ x y. pair_order x y ks) (sym (options_eq (vec_items t.rows) k a (in_rows t k there) a-is)) (sym (options_eq (vec_items t.rows) (get_or ks i 0) b (in_rows t (get_or ks i 0) there_one) b-is))
+      r_is
+      ∙ ap₂ (λ x y. pair_order x y ks) (sym (options_eq (vec_items t.rows) k a (in_rows t k there) a_is)) (sym (options_eq (vec_items t.rows) (get_or ks i 0) b (in_rows t (get_or ks i 0) there_one) b_is))
       ∙ sym (order_is (links t) k ks (omega arith) complete (below_any k ks below) (rises_from (links t) ks rises) (get_or (links t) k none) (get_or (links t) (get_or ks i 0) none)
       (λ s j u. t.lower k s j u) (λ s j u. let m = t.lower (get_or ks i 0) s j u in omega arith))
       ∙ ap₂ listing (game_node (links t) t.lower k h) (game_node (links t) t.lower (get_or ks i 0) (there_links t (get_or ks i 0) there_one))

@@ -149,14 +149,14 @@ module _ (t : Tables) (after : Nodes) (o : Sets) (grew : links after ≡ links t
       let g = t.reserved in
       omega arith
 
-  module _ (ks : List ℕ) (ok : Bool) (r k : ℕ) (k-is : k ≡ vec_len t.nodes.rows) (went-in : ok ≡ true) (put : ks ≡ cond ok (take r (vec_items t.listing) ++ (k ∷ drop r (vec_items t.listing))) (vec_items t.listing)) where
+  module _ (ks : List ℕ) (ok : Bool) (r k : ℕ) (k_is : k ≡ vec_len t.nodes.rows) (went_in : ok ≡ true) (put : ks ≡ cond ok (take r (vec_items t.listing) ++ (k ∷ drop r (vec_items t.listing))) (vec_items t.listing)) where
     ks_is : ks ≡ take r (vec_items t.listing) ++ (length (links t.nodes) ∷ drop r (vec_items t.listing))
-    ks_is = put ∙ cond-true ok _ _ went-in ∙ ap (λ n. take r (vec_items t.listing) ++ (n ∷ drop r (vec_items t.listing))) (k-is ∙ count_rows t.nodes)
+    ks_is = put ∙ cond-true ok _ _ went_in ∙ ap (λ n. take r (vec_items t.listing) ++ (n ∷ drop r (vec_items t.listing))) (k_is ∙ count_rows t.nodes)
 
     pub listing_after : Placed (links after) (vec_items t.listing) k r → Listing (links after) ks
     listing_after p =
         subst (λ x. Listing (links after) x) (sym ks_is)
-        (listing_new (links t.nodes) (links after) o (vec_items t.listing) r grew (listing_of t) (subst (λ n. Placed (links after) (vec_items t.listing) n r) (k-is ∙ count_rows t.nodes) p))
+        (listing_new (links t.nodes) (links after) o (vec_items t.listing) r grew (listing_of t) (subst (λ n. Placed (links after) (vec_items t.listing) n r) (k_is ∙ count_rows t.nodes) p))
 
     pub rows_after : Within (count t) o → map (in_order ks) (links after) ≡ rows_of t ++ (row_of t o ∷ [])
     rows_after within =

@@ -54,7 +54,7 @@ clean_canonical os lower all q w known clear stays = canonical (record { rising 
 
 -- the four steps
 module _ (os : List Sets) (lower : Lower os) (all : AllCanonical os) (o a b c d w : Sets) (known : Compared os o (length os) w)
-    (one : Reduced os Left o a) (one-stays : (k : ℕ) → a Left k ≡ true → Stays os Left w k) (two : Reduced os Right a b) (two-stays : (k : ℕ) → b Right k ≡ true → Stays os Right w k)
+    (one : Reduced os Left o a) (one_stays : (k : ℕ) → a Left k ≡ true → Stays os Left w k) (two : Reduced os Right a b) (two_stays : (k : ℕ) → b Right k ≡ true → Stays os Right w k)
     (three : Undominated os Left (length os) b c) (four : Undominated os Right (length os) c d) where
   kept : game os o ≈ game os d
   kept = ≈_trans one.value (≈_trans two.value (≈_trans three.reduced.value four.reduced.value))
@@ -64,8 +64,8 @@ module _ (os : List Sets) (lower : Lower os) (all : AllCanonical os) (o a b c d 
   clear Right j k l p g = four.clear j k l p g
 
   stays : (s : Side) (k : ℕ) → d s k ≡ true → Stays os s w k
-  stays Left k t = one-stays k (sym (two.theirs k) ∙ three.fewer k (sym (four.reduced.theirs k) ∙ t))
-  stays Right k t = two-stays k (sym (three.reduced.theirs k) ∙ four.fewer k t)
+  stays Left k t = one_stays k (sym (two.theirs k) ∙ three.fewer k (sym (four.reduced.theirs k) ∙ t))
+  stays Right k t = two_stays k (sym (three.reduced.theirs k) ∙ four.fewer k t)
 
   pub settled : Settled os o d
   settled = record { value = kept; within = four.reduced.within; canonical = clean_canonical os lower all d w (compared_same os o d (length os) w kept known) clear stays }

@@ -31,9 +31,9 @@ step_apart true false pl ql x y e = refl
 step_apart false true pl ql x y e = refl
 step_apart false false pl ql x y e = absurd (false≢true e)
 
-module _ (p q : ℕ → Bool) (ks : List ℕ) (i : ℕ) (h : i < length ks) (inv : walk_order p q (drop i ks) ≡ walk_order p q ks) (a b : Bool) (a-is : a ≡ p (get_or ks i 0)) (b-is : b ≡ q (get_or ks i 0)) where
+module _ (p q : ℕ → Bool) (ks : List ℕ) (i : ℕ) (h : i < length ks) (inv : walk_order p q (drop i ks) ≡ walk_order p q ks) (a b : Bool) (a_is : a ≡ p (get_or ks i 0)) (b_is : b ≡ q (get_or ks i 0)) where
   pub walk_on : not (beq a b) ≡ false → walk_order p q (drop (i + 1) ks) ≡ walk_order p q ks
-  walk_on e = sym (walk_step_lem p q ks i h ∙ rw (← a-is, ← b-is) (step_same a b _ _ (walk_order p q (drop (i + 1) ks)) e)) ∙ inv
+  walk_on e = sym (walk_step_lem p q ks i h ∙ rw (← a_is, ← b_is) (step_same a b _ _ (walk_order p q (drop (i + 1) ks)) e)) ∙ inv
 
   pub walk_ends : not (beq a b) ≡ true → (pl ql : Bool) → pl ≡ any_of p (drop (i + 1) ks) → ql ≡ any_of q (drop (i + 1) ks) → walk_step a (not a) pl ql Equal ≡ walk_order p q ks
-  walk_ends e pl ql f g = step_apart a b pl ql Equal (walk_order p q (drop (i + 1) ks)) e ∙ sym (walk_step_lem p q ks i h ∙ rw (← a-is, ← b-is, ← f, ← g)) ∙ inv
+  walk_ends e pl ql f g = step_apart a b pl ql Equal (walk_order p q (drop (i + 1) ks)) e ∙ sym (walk_step_lem p q ks i h ∙ rw (← a_is, ← b_is, ← f, ← g)) ∙ inv

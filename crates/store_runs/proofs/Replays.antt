@@ -18,13 +18,13 @@ module _ (rows : Rows) (room : ℕ) (calls : List StoreCall) (before : List Stor
   run_start = record { same_room = refl; all_answers = refl; all_rows = refl }
 
   module _ (i : ℕ) (rows' : Rows) (room' : ℕ) (so_far : List StoreAnswer) (w : Run rows room calls before i rows' room' so_far) where
-    pub run_more : (call : StoreCall) (rows'' : Rows) (room'' : ℕ) (now-answers : List StoreAnswer) (x : StoreAnswer) → i < length calls → call ≡ get_or calls i call →
-        x ≡ answer_to rows' room' call → rows'' ≡ rows_after rows' room' call → room'' ≡ room' → now-answers ≡ so_far ++ x ∷ [] →
-        Run rows room calls before (i + 1) rows'' room'' now-answers
-    run_more call rows'' room'' now-answers x h read told after same pushed = record {
+    pub run_more : (call : StoreCall) (rows'' : Rows) (room'' : ℕ) (now_answers : List StoreAnswer) (x : StoreAnswer) → i < length calls → call ≡ get_or calls i call →
+        x ≡ answer_to rows' room' call → rows'' ≡ rows_after rows' room' call → room'' ≡ room' → now_answers ≡ so_far ++ x ∷ [] →
+        Run rows room calls before (i + 1) rows'' room'' now_answers
+    run_more call rows'' room'' now_answers x h read told after same pushed = record {
       same_room = same ∙ w.same_room;
       all_answers =
-          ap (λ r. now-answers ++ answers_to r room (drop (i + 1) calls)) (after ∙ ap (λ m. rows_after rows' m call) w.same_room)
+          ap (λ r. now_answers ++ answers_to r room (drop (i + 1) calls)) (after ∙ ap (λ m. rows_after rows' m call) w.same_room)
           ∙ ap (λ s. s ++ rest) (pushed ∙ ap (λ y. so_far ++ y ∷ []) (told ∙ ap (λ m. answer_to rows' m call) w.same_room))
           ∙ append_assoc so_far (answer_to rows' room call ∷ []) rest
           ∙ ap (λ a. so_far ++ a) (sym answers_next)

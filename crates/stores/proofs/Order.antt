@@ -2,9 +2,8 @@
 -- Assumes nothing.
 use Rattle.std.proofs.Common.{◌≡◌, ℕ, ◌<◌, ◌⊎◌, List, [], ◌∷◌, Ordering, Less, Equal, Greater, sym, refl, ap, ◌∙◌, subst, inl, inr, arith}
 use Rattle.std.specs.Ordering.{ordering_then, MatchOrdering, nat_cmp}
-use Rattle.std.specs.Cmp.{ranks}
+use Rattle.std.specs.Cmp.{one_rank, ranks}
 use Rattle.std.specs.Cmp.Lexicographic.{slice_cmp}
-use Rattle.std.proofs.lemmas.Bool.Decides.{nat_tests}
 use Rattle.games.specs.Numbered.{Lists}
 use Rattle.stores.specs.Order.{number_order, list_order, row_order}
 use Rattle.stores.proofs.Lowest.{both_same}
@@ -18,6 +17,9 @@ list_order_is (x ∷ xs) (y ∷ ys) = ap (ordering_then (number_order x y)) (lis
 -- what `cmp` gives on two slices
 pub list_compared : (xs ys : List ℕ) (r : Ordering) → r ≡ slice_cmp nat_cmp xs ys → r ≡ list_order xs ys
 list_compared xs ys r h = h ∙ sym (list_order_is xs ys)
+
+pub number_compared : (x y : ℕ) (r : Ordering) → MatchOrdering r (x < y) (x ≡ y) (y < x) → r ≡ number_order x y
+number_compared x y r h = one_rank ◌<◌ (λ a l. omega arith) (λ a b c k l. omega arith) x y r (number_order x y) h (ranks x y)
 
 -- the three answers differ
 pub not_less : (o : Ordering) → o ≡ Less → (o ≡ Equal) ⊎ (o ≡ Greater) → ⊥
@@ -42,7 +44,7 @@ pub number_less : (x y : ℕ) → number_order x y ≡ Less → x < y
 number_less x y e = subst (λ r. MatchOrdering r (x < y) (x ≡ y) (y < x)) e (ranks x y)
 
 number_itself : (x : ℕ) → number_order x x ≡ Equal
-number_itself x = grind (arith, nat_tests)
+number_itself x = sym (number_compared x x Equal refl)
 
 list_equal : (xs ys : List ℕ) → list_order xs ys ≡ Equal → xs ≡ ys
 list_equal [] [] e = refl

@@ -66,9 +66,9 @@ module _ (A B : Rules) where
       pub first_found : Some (m * base + b) ≡ slice_get ((plus A B).moves s n) i
       first_found = nth_first (λ m. m * base + b) (A.moves s a) _ i m there ∙ sym (ap (λ ms. slice_get ms i) moves_are)
 
-    module _ (i before : ℕ) (before-is : before ≡ length (A.moves s a)) (past : before ≤ i) where
+    module _ (i before : ℕ) (before_is : before ≡ length (A.moves s a)) (past : before ≤ i) where
       second_at : slice_get ((plus A B).moves s n) i ≡ slice_get (map (λ m. a * base + m) (B.moves s b)) (i - before)
-      second_at = ap (λ ms. slice_get ms i) moves_are ∙ rw before-is (nth_second (λ m. m * base + b) (λ m. a * base + m) (A.moves s a) (B.moves s b) i (omega arith))
+      second_at = ap (λ ms. slice_get ms i) moves_are ∙ rw before_is (nth_second (λ m. m * base + b) (λ m. a * base + m) (A.moves s a) (B.moves s b) i (omega arith))
 
       pub second_found : (m : ℕ) → Some m ≡ slice_get (B.moves s b) (i - before) → Some (a * base + m) ≡ slice_get ((plus A B).moves s n) i
       second_found m there = nth_some_map (λ m. a * base + m) (B.moves s b) (i - before) m there ∙ sym second_at

@@ -1,6 +1,6 @@
 // How a reader takes one mark after the other.
 ghost use Rattle.std.specs.Prelude.{◌≡◌, ◌<◌, T, [], is_some};
-ghost use Rattle.games.specs.Text.{open-mark, bar, close-mark, comma};
+ghost use Rattle.games.specs.Text.{open_mark, bar, close_mark, comma};
 ghost use Rattle.games.proofs.Reader.{State, wants, next};
 ghost use Rattle.reading.specs.Marks.{meant};
 ghost use Rattle.reading.specs.Standing.{Stands, Stepped, is_done, list_ending};
@@ -44,7 +44,7 @@ impl Reader {
     }
 
     fn open(&mut self) -> Step
-        ensures { (q : State) → Stands self.old q → Stepped self.new (next q open-mark) result }
+        ensures { (q : State) → Stands self.old q → Stepped self.new (next q open_mark) result }
     {
         match self.stage {
             Stage::Wants | Stage::Fresh => {
@@ -74,7 +74,7 @@ impl Reader {
     }
 
     fn close(&mut self) -> Step
-        ensures { (q : State) → Stands self.old q → Stepped self.new (next q close-mark) result }
+        ensures { (q : State) → Stands self.old q → Stepped self.new (next q close_mark) result }
     {
         match self.list_ending() {
             Some(Side::Right) => {
