@@ -1,6 +1,6 @@
--- What a draft holds, and what a put changes.
+-- What a draft holds, what a put changes, and a slip that is handed out.
 -- Assumes nothing.
-use Rattle.std.specs.Prelude.{ℕ}
+use Rattle.std.specs.Prelude.{◌≡◌, ℕ, false}
 use Rattle.games.specs.declared.side.Side.{Side}
 use Rattle.games.specs.Numbered.{Lists}
 use Rattle.nodesets.specs.Pairs.{by}
@@ -8,6 +8,11 @@ use Rattle.calls.specs.Answers.{Answer}
 use Rattle.calls.specs.Drafts.{Puts}
 use Rattle.dictionary.specs.Kept.{ListsOf}
 use Rattle.drafts.specs.declared.draft.Draft.{Draft}
+use Rattle.drafts.specs.declared.slip.Slip.{Slip}
+
+-- the slip is not spent
+abbrev pub Unspent : Slip → Type 0
+Unspent s = s.spent ≡ false
 
 -- just the numbers of the two lists are put
 abbrev pub Holds : Draft → Lists → Type 0

@@ -1,7 +1,7 @@
 // A draft: the numbers put on each side, and the calls on it alone.
 ghost use Rattle.calls.specs.Rows.{no_numbers};
 ghost use Rattle.dictionary.specs.Faults.{answer_of};
-ghost use Rattle.drafts.specs.Holding.{DraftsHold, Holds, PutsInto};
+ghost use Rattle.drafts.specs.Holding.{DraftsHold, Holds, PutsInto, Unspent};
 ghost use Rattle.drafts.specs.Steps.{AbandonSteps, OpenSteps, PutSteps};
 
 use crate::slip::Slip;
@@ -32,6 +32,7 @@ impl Draft {
     // Empties the draft and hands out a slip.
     pub fn open(&mut self) -> Slip
         ensures empty { Holds self.new no_numbers }
+        ensures unspent { Unspent result }
         ensures step { OpenSteps self.new }
     {
         *self = Draft::new();

@@ -1,5 +1,6 @@
 // A slip: whoever has one has a draft open, and has to seal or abandon it.
-ghost use Rattle.std.specs.Prelude.{◌≡◌, false, IsTrue};
+ghost use Rattle.std.specs.Prelude.{IsTrue};
+ghost use Rattle.drafts.specs.Holding.{Unspent};
 
 // Handed out when a draft is opened. It is never let go unspent: seal or abandon takes it.
 pub struct Slip {
@@ -17,7 +18,7 @@ impl Drop for Slip {
 
 impl Slip {
     pub(crate) fn new() -> Slip
-        ensures { result.spent ≡ false }
+        ensures { Unspent result }
     {
         Slip { spent: false }
     }
