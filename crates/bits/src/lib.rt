@@ -18,17 +18,10 @@ pub fn nth_bit(word: u64, index: usize) -> Option<u32>
 {
     let mut rest = word;
     for _ in 0..index {
-        if rest == 0 {
-            return None;
-        }
-        // clears the lowest set bit
-        rest &= rest - 1;
+        // clears the lowest set bit, where there is one
+        rest &= rest.checked_sub(1)?;
     }
-    if rest == 0 {
-        None
-    } else {
-        Some(rest.trailing_zeros())
-    }
+    (rest != 0).then_some(rest.trailing_zeros())
 }
 
 // Whether the bit at the place is set; from place 64 on there is none.

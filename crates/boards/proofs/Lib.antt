@@ -1,4 +1,5 @@
 pub mod Same
+pub mod Refusals
 pub mod Running
 pub mod Codes
 pub mod Strips

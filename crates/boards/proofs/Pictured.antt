@@ -1,10 +1,11 @@
 -- A Hackenbush picture set up from its written edges.
 -- Assumes nothing.
-use Rattle.std.proofs.Common.{◌≡◌, ℕ, ◌-◌, ◌*◌, ◌%◌, ◌^◌, true, false, ◌&&◌, leb, List, length, take, Some, None, Option, sym, ap, ◌∙◌, subst, ⊎_elim, arith}
+use Rattle.std.proofs.Common.{◌≡◌, ℕ, ◌-◌, ◌*◌, ◌%◌, ◌^◌, true, false, ◌&&◌, leb, List, length, Some, None, Option, sym, ap, ◌∙◌, subst, ⊎_elim, arith}
 use Rattle.std.proofs.lemmas.List.{length-map}
 use Rattle.std.proofs.lemmas.Bool.{cond-true, cond-false, cases_Bool, and_parts}
 use Rattle.rulesets.specs.Rules.{Rules}
 use Rattle.bits.proofs.Words.{one_shl_64}
+use Rattle.hackenbush.specs.declared.edge.Edge.{Edge as Joint}
 use Rattle.hackenbush.specs.Hackenbush.{hackenbush as hackenbush_rules, fits, near}
 use Rattle.hackenbush.specs.Reading.{fits_length}
 use Rattle.lines.specs.Syntax.{Items, Edge, hackenbush, items_of}
@@ -12,7 +13,7 @@ use Rattle.boards.specs.declared.setup.edges.Edges.{Edges}
 use Rattle.boards.specs.Boards.{all, joint, joints, edges_position, meaning}
 use Rattle.boards.specs.EdgesRead.{no_edges, edges_read}
 use Rattle.boards.proofs.Same.{at_code, same_position}
-use Rattle.boards.proofs.EdgeByEdge.{Drawn, Outcome, edges_outcome, edges_within}
+use Rattle.boards.proofs.EdgeByEdge.{Outcome, edges_outcome}
 
 module _ (text : List ℕ) (edges : Items Edge) (e : text ≡ items_of (hackenbush edges)) where
   outcome : (o : Option Edges) → o ≡ edges_read text → Outcome no_edges (all edges) o
@@ -29,25 +30,18 @@ module _ (text : List ℕ) (edges : Items Edge) (e : text ≡ items_of (hackenbu
       (λ h. cond-false (fits (joints edges)) (Some (edges_position edges)) None h)
       (cases_Bool (fits (joints edges)))
 
-  module _ (t : Edges) (r : Some t ≡ edges_read text) where
-    were : Drawn no_edges (all edges) t
-    were = outcome (Some t) r
+  -- the edges that were read, as the slice that is asked for a picture
+  module _ (t : Edges) (r : Some t ≡ edges_read text) (xs : List Joint) (q : xs ≡ t.edges.items) where
+    joints_are : xs ≡ joints edges
+    joints_are = q ∙ (outcome (Some t) r).taken
 
-    -- the part of the list that the count reaches
-    joints_are : take (t.count - 0) t.edges ≡ joints edges
-    joints_are = ap (λ n. take n t.edges) (let z : t.count - 0 ≡ t.count = omega arith in z) ∙ were.taken
-
-    count_is : t.count ≡ length (joints edges)
-    count_is = were.counted ∙ (let m = length-map (all edges) joint in omega arith)
-
-    code_is : 1 * 2 ^ t.count % 18446744073709551616 - 1 ≡ 2 ^ length (joints edges) - 1
-    code_is = ap (λ n. n - 1) (one_shl_64 t.count (omega (arith, (edges_within text t r).0))) ∙ ap (λ n. 2 ^ n - 1) count_is
-
-    -- the edges that were read make a picture, or do not
-    pub picture_set : (R : Rules) → fits (take (t.count - 0) t.edges) ≡ true → R ≡ hackenbush_rules (take (t.count - 0) t.edges) → meaning (hackenbush edges) ≡ at_code R (1 * 2 ^ t.count % 18446744073709551616 - 1)
-    picture_set R f p =
+    pub picture_set : (R : Rules) (n : ℕ) → fits xs ≡ true → R ≡ hackenbush_rules xs → n ≡ length t.edges.items → meaning (hackenbush edges) ≡ at_code R (1 * 2 ^ n % 18446744073709551616 - 1)
+    picture_set R n f p k =
+        let few = (fits_length xs f).1 in
+        let as_many = ap length q in
+        let code_is : 1 * 2 ^ n % 18446744073709551616 - 1 ≡ 2 ^ length (joints edges) - 1 = ap (λ m. m - 1) (one_shl_64 n (omega arith)) ∙ ap (λ m. 2 ^ m - 1) (k ∙ sym as_many ∙ ap length joints_are) in
         cond-true (fits (joints edges)) (Some (edges_position edges)) None (ap fits (sym joints_are) ∙ f)
         ∙ same_position (sym (p ∙ ap hackenbush_rules joints_are)) (sym code_is)
 
-    pub picture_refused : fits (take (t.count - 0) t.edges) ≡ false → meaning (hackenbush edges) ≡ None
+    pub picture_refused : fits xs ≡ false → meaning (hackenbush edges) ≡ None
     picture_refused f = cond-false (fits (joints edges)) (Some (edges_position edges)) None (ap fits (sym joints_are) ∙ f)

@@ -1,12 +1,13 @@
 -- The bytes of a written strip: a character for each cell.
 -- Assumes nothing.
-use Rattle.std.proofs.Common.{◌≡◌, ℕ, suc, ◌+◌, ◌*◌, true, List, [], ◌∷◌, length, Some, None, Err, sym, refl, ap, ◌∙◌, arith}
+use Rattle.std.proofs.Common.{◌≡◌, ℕ, suc, ◌+◌, ◌*◌, true, false, List, [], ◌∷◌, length, Some, None, Ok, Err, Result, is_ok, sym, refl, ap, ◌∙◌, arith}
 use Rattle.std.specs.Option.{option_map}
-use Rattle.std.proofs.lemmas.Bool.{cond-true, cond-false}
+use Rattle.std.proofs.lemmas.Bool.{cond-true, cond-false, true≢false}
 use Rattle.rulesets.specs.Rules.{Rules}
 use Rattle.toads.specs.Toads.{toads as toads_rules}
 use Rattle.toads.specs.Making.{sized}
 use Rattle.toads.specs.Strips.{first_wrong, code_of, Read}
+use Rattle.toads.specs.declared.text.Position.{Position}
 use Rattle.toads.specs.declared.text.TextFault.{TextFault}
 use Rattle.toads.specs.declared.text.TextFault.TheVariants.{Character, Size}
 use Rattle.lines.specs.Syntax.{Items, Cell, toad, frog, blank, toads, spell_cell, spell_more, items_of}
@@ -49,9 +50,10 @@ module _ (text : List ℕ) (cells : Items Cell) (e : text ≡ items_of (toads ce
       cond-true (sized (length (all cells))) (Some (cells_position cells)) None (ap sized (sym cells_are) ∙ s)
       ∙ same_position (ap toads_rules (sym cells_are) ∙ sym r) (sym (same_code (all cells)) ∙ ap code_of (sym e) ∙ sym c)
 
-  pub strip_refused : (f : TextFault) → Read text (Err f) → meaning (toads cells) ≡ None
-  strip_refused (Character i) h =
+  pub strip_refused : (r : Result Position TextFault) → Read text r → false ≡ is_ok r → meaning (toads cells) ≡ None
+  strip_refused (Ok p) h b = absurd (true≢false (sym b))
+  strip_refused (Err (Character i)) h b =
       let w : None ≡ Some i = sym strip_right ∙ h in
       let z : ◌≡◌ {A = ℕ} 0 1 = cc in
       absurd (omega arith)
-  strip_refused Size h = cond-false (sized (length (all cells))) (Some (cells_position cells)) None (ap sized (sym cells_are) ∙ h.1)
+  strip_refused (Err Size) h b = cond-false (sized (length (all cells))) (Some (cells_position cells)) None (ap sized (sym cells_are) ∙ h.1)

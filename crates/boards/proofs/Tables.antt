@@ -1,43 +1,39 @@
 -- A Domineering board set up from its written rows.
 -- Assumes nothing.
-use Rattle.std.proofs.Common.{◌≡◌, ℕ, ◌+◌, ◌-◌, ◌*◌, ◌/◌, ◌<◌, true, false, ◌&&◌, ◌||◌, eqb, ltb, List, length, Some, None, Option, sym, refl, ap, ◌∙◌, subst, ap₂, inl, ⊎_elim, arith}
+use Rattle.std.proofs.Common.{◌≡◌, ℕ, ◌+◌, ◌-◌, ◌*◌, ◌/◌, ◌<◌, true, false, ◌&&◌, eqb, ltb, List, length, Some, None, Option, sym, ap, ◌∙◌, subst, ap₂, ⊎_elim, arith}
+use Rattle.std.specs.Option.{option_map}
 use Rattle.std.proofs.lemmas.Nat.{div-mul-add}
-use Rattle.std.proofs.lemmas.Bool.{cond-true, cond-false, cases_Bool, ltb-true, eqb-true, and_from, and_parts, and_right}
+use Rattle.std.proofs.lemmas.Bool.{cond-true, cond-false, cond_both, cases_Bool, ltb-true, eqb-true, and_from, and_parts, and_right}
 use Rattle.rulesets.specs.Rules.{Rules}
 use Rattle.domineering.specs.Domineering.{domineering as domineering_rules, sized}
 use Rattle.domineering.specs.Size.{cells_high}
 use Rattle.lines.specs.Syntax.{Items, Square, domineering, items_of}
+use Rattle.boards.specs.declared.setup.rows.Begun.{Begun}
 use Rattle.boards.specs.declared.setup.rows.Rows.{Rows}
 use Rattle.boards.specs.Boards.{all, even, squares_of, squares_code, rows_fit, rows_position, meaning}
 use Rattle.boards.specs.Stepping.{run}
-use Rattle.boards.specs.RowsRead.{no_rows, ended, row_step, last_ended, rows_read}
+use Rattle.boards.specs.RowsRead.{no_rows, as_long, closed, row_step, last_closed, rows_read}
 use Rattle.boards.proofs.Same.{at_code, same_position}
 use Rattle.boards.proofs.RowByRow.{long, even_count, Ended, Outcome, rows_outcome}
 
 -- rows that have ended have squares
-ended_long : (s t : Rows) → ended s ≡ Some t → 0 < t.columns
-ended_long s t e =
-    let b = ltb s.start s.squares in
-    let more = eqb s.columns 0 || eqb (s.squares - s.start) s.columns in
-    let new_row : Option Rows = Some (record { columns = s.squares - s.start; start = s.squares; squares = s.squares; code = s.code }) in
-    ⊎_elim
-    (λ h.
-    let w : new_row ≡ Some t = sym (cond-true (b && more) new_row None h) ∙ e in
-    let k : s.squares - s.start ≡ t.columns = cc in
-    let l = ltb-true s.start s.squares (and_parts b more h).0 in
-    omega arith)
-    (λ h.
-    let w : None ≡ Some t = sym (cond-false (b && more) new_row None h) ∙ e in
-    let z : ◌≡◌ {A = ℕ} 0 1 = cc in
-    absurd (omega arith))
-    (cases_Bool (b && more))
+abbrev Long : Option Rows → Type 0
+Long None = Unit {0}
+Long (Some t) = 0 < t.columns
 
-last_long : (o : Option Rows) (t : Rows) → last_ended o ≡ Some t → 0 < t.columns
-last_long None t e = let z : ◌≡◌ {A = ℕ} 0 1 = cc in absurd (omega arith)
-last_long (Some s) t e = ended_long s t e
+closed_long : (s : Begun) → Long (closed s)
+closed_long s =
+    cond_both (ltb s.start s.squares && as_long s.columns (s.squares - s.start)) (Some (s.squares - s.start)) None
+    (λ o. Long (option_map (λ (n : ℕ). record { columns = n; squares = s.squares; code = s.code }) o))
+    (λ h. let l = ltb-true s.start s.squares (and_parts (ltb s.start s.squares) (as_long s.columns (s.squares - s.start)) h).0 in omega arith)
+    (λ h. tt)
 
-rows_long : (text : List ℕ) (t : Rows) → Some t ≡ rows_read text → 0 < t.columns
-rows_long text t e = last_long (run row_step (Some no_rows) text) t (sym e)
+last_long : (o : Option Begun) → Long (last_closed o)
+last_long None = tt
+last_long (Some s) = closed_long s
+
+pub rows_long : (text : List ℕ) (t : Rows) → Some t ≡ rows_read text → 0 < t.columns
+rows_long text t e = subst Long (sym e) (last_long (run row_step (Some no_rows) text))
 
 module _ (text : List ℕ) (rows : Items (Items Square)) (e : text ≡ items_of (domineering rows)) where
   outcome : (o : Option Rows) → o ≡ rows_read text → Outcome no_rows (all rows) o
@@ -48,7 +44,7 @@ module _ (text : List ℕ) (rows : Items (Items Square)) (e : text ≡ items_of 
   rows_refused r = ⊎_elim
       (λ h.
       let p = and_parts (even (long rows.first) (all rows)) (sized (length (all rows)) (long rows.first)) h in
-      let k = outcome None r (long rows.first) (inl refl) p.0 in
+      let k = outcome None r (long rows.first) tt p.0 in
       let n = even_count (long rows.first) (all rows) p.0 in
       let m = cells_high (length (all rows)) (long rows.first) p.1 in
       absurd (omega arith))

@@ -15,7 +15,7 @@ ascii digit = 48 + digit
 
 -- the state with another number
 abbrev pub with_number : Edges → ℕ → Edges
-with_number s n = record { from = s.from; number = n; count = s.count; edges = s.edges }
+with_number s n = record { from = s.from; number = n; edges = s.edges }
 
 -- the byte of a digit
 digit_byte : (s : Edges) (d : ℕ) → d < 10 → edge_step s (ascii d) ≡ digit_read s d

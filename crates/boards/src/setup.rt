@@ -28,9 +28,7 @@ pub fn set_up_domineering(items: &[u8]) -> Result<Setup, BoardFault>
     ensures squares { SquaresRead }
     ensures rowwise { RowsRead }
 {
-    let Some(read) = Rows::read(items) else {
-        return Err(BoardFault::Size);
-    };
+    let read = Rows::read(items).ok_or(BoardFault::Size)?;
     let board = Board::new(read.squares / read.columns, read.columns)?;
     Ok(Setup {
         board: AnyBoard::Domineering(board),
@@ -42,13 +40,11 @@ pub fn set_up_toads(items: &[u8]) -> Result<Setup, BoardFault>
     ensures set { (cells : Items Cell) → items.now ≡ items_of (toads cells) → SetUp (toads cells) result }
     ensures digits { CellsRead }
 {
-    match Position::read(items) {
-        Ok(position) => Ok(Setup {
-            board: AnyBoard::Toads(position.strip),
-            code: position.code,
-        }),
-        Err(_) => Err(BoardFault::Size),
-    }
+    let position = Position::read(items).map_err(|_| BoardFault::Size)?;
+    Ok(Setup {
+        board: AnyBoard::Toads(position.strip),
+        code: position.code,
+    })
 }
 
 // Every edge stands.
@@ -56,12 +52,10 @@ pub fn set_up_hackenbush(items: &[u8]) -> Result<Setup, BoardFault>
     ensures set { (edges : Items Edge) → items.now ≡ items_of (hackenbush edges) → SetUp (hackenbush edges) result }
     ensures standing { EdgesStand }
 {
-    let Some(read) = Edges::read(items) else {
-        return Err(BoardFault::Size);
-    };
-    let picture = Picture::new(&read.edges[0..read.count])?;
+    let edges = Edges::read(items).ok_or(BoardFault::Size)?.edges;
+    let picture = Picture::new(edges.as_slice())?;
     Ok(Setup {
         board: AnyBoard::Hackenbush(picture),
-        code: (1 << read.count) - 1,
+        code: (1 << edges.len()) - 1,
     })
 }

@@ -13,8 +13,5 @@ pub fn add(first: AnyBoard, second: AnyBoard) -> Sum<AnyBoard, AnyBoard>
     ensures fit { BoardsFit }
     ensures adds { SumAdds (any_rules first) (any_rules second) }
 {
-    match Sum::new(first, second) {
-        Ok(sum) => sum,
-        Err(_) => unreachable(),
-    }
+    Sum::new(first, second).unwrap()
 }

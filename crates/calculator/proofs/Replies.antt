@@ -4,7 +4,7 @@ use Rattle.std.proofs.Common.{◌≡◌, ℕ, ◌<◌, ◌≤◌, true, false, L
 use Rattle.std.proofs.lemmas.Bool.{both_ways, le-leb, lt-leb}
 use Rattle.games.specs.declared.outcome.Comparison.{Comparison}
 use Rattle.games.specs.declared.outcome.Comparison.TheVariants.{Less, Greater, Equal, Confused}
-use Rattle.games.specs.Outcomes.{compare}
+use Rattle.games.specs.Outcomes.{compare, sign}
 use Rattle.games.specs.Form.{Form}
 use Rattle.games.specs.Text.{bytes}
 use Rattle.rulesets.specs.Rules.{Rules, Lawful}
@@ -29,7 +29,7 @@ use Rattle.boards.specs.Boards.{Position, meaning}
 use Rattle.calculator.specs.Laying.{Stood}
 use Rattle.calculator.specs.declared.fault.CalculatorFault.{CalculatorFault}
 use Rattle.calculator.specs.Faults.{number_of, place_of}
-use Rattle.calculator.specs.Replies.{Replies, comparison_text, move_text, fault_text, value_text, short, value_place, first_place, second_place, board_place}
+use Rattle.calculator.specs.Replies.{Replies, move_text, fault_text, value_text, short, value_place, first_place, second_place, board_place}
 use Rattle.calculator.specs.Subjects.{at_place, from_place, is_legal, EntersSubject}
 use Rattle.calculator.proofs.Numbers.{most_64}
 use Rattle.calculator.specs.Written.{AtFront, Replied, WroteValue}
@@ -88,7 +88,7 @@ comparison_told (Compares.known a b) = refl
 pub subject_stays : {c c' i j m : ℕ} {s u : Subject} {rows between after : Rows} {x : Answer ℕ} → EntersSubject c rows i s (told m) between → EntersSubject c' between j u x after → m < length after
 subject_stays y z = let l = subject_in y in let g = subject_grows z in omega arith
 
-comparison_small : (o : Comparison) → length (comparison_text o) ≤ 4096
+comparison_small : (o : Comparison) → length (sign o) ≤ 4096
 comparison_small Less = omega arith
 comparison_small Greater = omega arith
 comparison_small Equal = omega arith
@@ -118,9 +118,9 @@ module _ (c : ℕ) (rows : Rows) (before after : List ℕ) (later : Rows) where
 
   -- two things that were entered are compared
   pub compare_replied : (s u : Subject) (m n : ℕ) (between : Rows) (o : Comparison) (l : ℕ) → EntersSubject c rows first_place s (told m) between → EntersSubject c between (second_place s) u (told n) later → Compares later m n (told o)
-      → l ≡ length (comparison_text o) → AtFront before (comparison_text o) after → Replied c rows (comparison s u) before after later (Ok l)
+      → l ≡ length (sign o) → AtFront before (sign o) after → Replied c rows (comparison s u) before after later (Ok l)
   compare_replied s u m n between o l x y z e w =
-      Replied.told (comparison_text o) (subst (λ p. Replies c rows (comparison s u) (comparison_text p) later) (sym (comparison_told z)) (Replies.compared x y)) e (comparison_small o) w
+      Replied.told (sign o) (subst (λ p. Replies c rows (comparison s u) (sign p) later) (sym (comparison_told z)) (Replies.compared x y)) e (comparison_small o) w
 
   -- a move was told
   pub move_replied : (side : Side) (b : Board) (p : Position) (w : Option ℕ) (es : List Entry) (l : ℕ) → meaning b ≡ Some p → FirstMoves p.rules c rows side p.code (told w) later es → Earliest p.rules side p.code (told w)

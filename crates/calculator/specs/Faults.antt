@@ -4,7 +4,7 @@ use Rattle.std.specs.Prelude.{ℕ, Ok, Err, Result}
 use Rattle.rulesets.specs.Faults as Rulesets
 use Rattle.dictionary.specs.Faults as Dictionaries
 use Rattle.calls.specs.Answers.{Answer, told, refused_at}
-use Rattle.lines.specs.Questions.{number_of_fault, place_of_fault}
+use Rattle.calls.specs.Faults as Calls
 use Rattle.valuing.specs.Answers as Valuing
 use Rattle.reading.specs.Faults.{read_number}
 use Rattle.calculator.specs.declared.fault.BufferFault.{BufferFault}
@@ -15,7 +15,7 @@ use Rattle.calculator.specs.declared.fault.CalculatorFault.TheVariants.{LongLine
 -- 13 for a line that is too long, 4 for a position that is not legal, and any other fault by its own number
 abbrev pub number_of : CalculatorFault → ℕ
 number_of LongLine = 13
-number_of (Line f) = number_of_fault f
+number_of (Line f) = Calls.number_of f
 number_of (Board i f) = Rulesets.fault_number f
 number_of (Illegal i) = 4
 number_of (Position i f) = Valuing.number_of f
@@ -26,7 +26,7 @@ number_of (Print f) = Dictionaries.print_fault_number f
 -- its place in the line: a line that is too long at 1,000, an answer that does not fit at 0
 abbrev pub place_of : CalculatorFault → ℕ
 place_of LongLine = 1000
-place_of (Line f) = place_of_fault f
+place_of (Line f) = Calls.place_of f
 place_of (Board i f) = i
 place_of (Illegal i) = i
 place_of (Position i f) = i

@@ -5,7 +5,7 @@ use Rattle.games.specs.declared.outcome.Comparison.{Comparison}
 use Rattle.games.specs.declared.outcome.Comparison.TheVariants.{Less, Greater, Equal, Confused}
 use Rattle.games.specs.declared.outcome.Outcome.{Outcome}
 use Rattle.games.specs.declared.side.Side.{Side}
-use Rattle.games.specs.Outcomes.{compare, outcome, letter}
+use Rattle.games.specs.Outcomes.{compare, letter, outcome, sign}
 use Rattle.games.specs.Text.{bytes}
 use Rattle.calls.specs.Rows.{Rows, node}
 use Rattle.calls.specs.Answers.{told, refused_at}
@@ -27,13 +27,6 @@ head_text n o = numeral n ++ (32 ∷ letter o ∷ 32 ∷ [])
 
 abbrev pub value_text : Rows → ℕ → List ℕ
 value_text rows n = head_text n (outcome (node rows n)) ++ bytes (node rows n)
-
--- how two games compare
-abbrev pub comparison_text : Comparison → List ℕ
-comparison_text Less = codes "<"
-comparison_text Greater = codes ">"
-comparison_text Equal = codes "="
-comparison_text Confused = codes "||"
 
 -- the index of a move, or `none`
 abbrev pub move_text : Option ℕ → List ℕ
@@ -62,7 +55,7 @@ pub data Replies (capacity : ℕ) (rows : Rows) : Line → List ℕ → Rows →
   value_told : {s : Subject} {n : ℕ} {after : Rows} → EntersSubject capacity rows value_place s (told n) after → Replies capacity rows (value s) (short (value_text after n)) after
   value_refused : {s : Subject} {k i : ℕ} {after : Rows} → EntersSubject capacity rows value_place s (refused_at k i) after → Replies capacity rows (value s) (fault_text k i) after
   compared : {s u : Subject} {m n : ℕ} {between after : Rows} → EntersSubject capacity rows first_place s (told m) between → EntersSubject capacity between (second_place s) u (told n) after
-      → Replies capacity rows (comparison s u) (comparison_text (compare (node after m) (node after n))) after
+      → Replies capacity rows (comparison s u) (sign (compare (node after m) (node after n))) after
   first_refused : {s u : Subject} {k i : ℕ} {after : Rows} → EntersSubject capacity rows first_place s (refused_at k i) after → Replies capacity rows (comparison s u) (fault_text k i) after
   second_refused : {s u : Subject} {m k i : ℕ} {between after : Rows} → EntersSubject capacity rows first_place s (told m) between → EntersSubject capacity between (second_place s) u (refused_at k i) after
       → Replies capacity rows (comparison s u) (fault_text k i) after

@@ -1,6 +1,5 @@
 // A calculator: one dictionary, and the memory that is lent for valuing.
 ghost use Rattle.std.specs.Prelude.{◌≡◌, [], IfOk};
-ghost use Rattle.dictionary.specs.Kept.{Kept};
 
 use dictionary::dictionary::Dictionary;
 use memory::memory::Memory;
@@ -8,7 +7,7 @@ use std::alloc::{AllocError, Global};
 use stores::store::Store;
 
 #[derive(Drop)]
-pub struct Calculator<S> {
+pub struct Calculator<S: Store> {
     pub(crate) dictionary: Dictionary<S>,
     pub(crate) memory: Memory,
 }
@@ -16,7 +15,7 @@ pub struct Calculator<S> {
 impl<S: Store + Drop> Calculator<S> {
     // A calculator with a new dictionary over the store, whose rows go. There may be no memory for it.
     pub fn begin(heap: Global, store: S) -> Result<Calculator<S>, AllocError>
-        ensures { IfOk result (λ c. (S.Store.rows c.dictionary.store ≡ []) × (S.Store.room c.dictionary.store ≡ S.Store.room store) × Kept (S.Store.rows c.dictionary.store) c.dictionary.tables) }
+        ensures { IfOk result (λ c. (c.dictionary.rows ≡ []) × (c.dictionary.room ≡ S.Store.room store)) }
     {
         let dictionary = Dictionary::begin(heap, store)?;
         Ok(Calculator {

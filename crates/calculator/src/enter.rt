@@ -1,6 +1,5 @@
 // Entering what a line names into the dictionary: a board, its minus, a sum, or a text.
 ghost use Rattle.std.specs.Prelude.{◌≡◌, ℕ, ◌+◌, ◌^◌, ◌<◌, ◌≤◌, ◌++◌, length, codes};
-ghost use Rattle.dictionary.specs.Kept.{Kept};
 ghost use Rattle.lines.specs.Questions.{DescribesBoard, DescribesSubject};
 ghost use Rattle.lines.specs.Syntax.{Board as Written, Subject as Named, plain, minus, spell_board, spell_subject, sum};
 ghost use Rattle.calculator.specs.Entering.{ReadAt, ValuedAt};
@@ -16,7 +15,7 @@ use reading::read::read;
 use rulesets::ruleset::Ruleset;
 use stores::store::Store;
 use sums::minus::Minus;
-use valuing::remembering::value::value;
+use valuing::value::value_with;
 
 impl<S: Store> Calculator<S> {
     // Values a position that stands at a place of the line; what valuing refuses is refused there.
@@ -26,21 +25,18 @@ impl<S: Store> Calculator<S> {
         board: &R,
         code: u64,
     ) -> Result<u16, CalculatorFault>
-        ensures valued { Kept (S.Store.rows self.old.dictionary.store) self.old.dictionary.tables → ValuedAt (R.Ruleset.rules board.now) (S.Store.room self.old.dictionary.store) (S.Store.rows self.old.dictionary.store) place code (answer_of result) (S.Store.rows self.new.dictionary.store) }
-        ensures kept { Kept (S.Store.rows self.old.dictionary.store) self.old.dictionary.tables → Kept (S.Store.rows self.new.dictionary.store) self.new.dictionary.tables }
-        ensures room { S.Store.room self.new.dictionary.store ≡ S.Store.room self.old.dictionary.store }
+        ensures valued { ValuedAt (R.Ruleset.rules board.now) self.old.dictionary.room self.old.dictionary.rows place code (answer_of result) self.new.dictionary.rows }
+        ensures room { self.new.dictionary.room ≡ self.old.dictionary.room }
     {
-        match value(&mut self.dictionary, &mut self.memory, board, code) {
-            Ok(node) => Ok(node),
-            Err(fault) => Err(CalculatorFault::Position { place, fault }),
-        }
+        value_with(&mut self.dictionary, &mut self.memory, board, code).map_err(
+            |fault| CalculatorFault::Position { place, fault },
+        )
     }
 
     // A board.
     fn enter_plain(&mut self, place: usize, board: &Board<'_>) -> Result<u16, CalculatorFault>
-        ensures entered { Kept (S.Store.rows self.old.dictionary.store) self.old.dictionary.tables → (b : Written) → DescribesBoard place board.now b → EntersSubject (S.Store.room self.old.dictionary.store) (S.Store.rows self.old.dictionary.store) place (plain b) (answer_of result) (S.Store.rows self.new.dictionary.store) }
-        ensures kept { Kept (S.Store.rows self.old.dictionary.store) self.old.dictionary.tables → Kept (S.Store.rows self.new.dictionary.store) self.new.dictionary.tables }
-        ensures room { S.Store.room self.new.dictionary.store ≡ S.Store.room self.old.dictionary.store }
+        ensures entered { (b : Written) → DescribesBoard place board.now b → EntersSubject self.old.dictionary.room self.old.dictionary.rows place (plain b) (answer_of result) self.new.dictionary.rows }
+        ensures room { self.new.dictionary.room ≡ self.old.dictionary.room }
     {
         let setup = stand(board)?;
         self.enter(place, &setup.board, setup.code)
@@ -48,9 +44,8 @@ impl<S: Store> Calculator<S> {
 
     // The minus of a board, which stands at a place of its own.
     fn enter_minus(&mut self, place: usize, board: &Board<'_>) -> Result<u16, CalculatorFault>
-        ensures entered { Kept (S.Store.rows self.old.dictionary.store) self.old.dictionary.tables → (b : Written) → DescribesBoard (place + length (codes "(minus ")) board.now b → EntersSubject (S.Store.room self.old.dictionary.store) (S.Store.rows self.old.dictionary.store) place (minus b) (answer_of result) (S.Store.rows self.new.dictionary.store) }
-        ensures kept { Kept (S.Store.rows self.old.dictionary.store) self.old.dictionary.tables → Kept (S.Store.rows self.new.dictionary.store) self.new.dictionary.tables }
-        ensures room { S.Store.room self.new.dictionary.store ≡ S.Store.room self.old.dictionary.store }
+        ensures entered { (b : Written) → DescribesBoard (place + length (codes "(minus ")) board.now b → EntersSubject self.old.dictionary.room self.old.dictionary.rows place (minus b) (answer_of result) self.new.dictionary.rows }
+        ensures room { self.new.dictionary.room ≡ self.old.dictionary.room }
     {
         let setup = stand(board)?;
         self.enter(place, &Minus::new(setup.board), setup.code)
@@ -63,9 +58,8 @@ impl<S: Store> Calculator<S> {
         first: &Board<'_>,
         second: &Board<'_>,
     ) -> Result<u16, CalculatorFault>
-        ensures entered { Kept (S.Store.rows self.old.dictionary.store) self.old.dictionary.tables → (a b : Written) → DescribesBoard (place + length (codes "(sum ")) first.now a → DescribesBoard (place + length (codes "(sum " ++ (spell_board a ++ codes " "))) second.now b → EntersSubject (S.Store.room self.old.dictionary.store) (S.Store.rows self.old.dictionary.store) place (sum a b) (answer_of result) (S.Store.rows self.new.dictionary.store) }
-        ensures kept { Kept (S.Store.rows self.old.dictionary.store) self.old.dictionary.tables → Kept (S.Store.rows self.new.dictionary.store) self.new.dictionary.tables }
-        ensures room { S.Store.room self.new.dictionary.store ≡ S.Store.room self.old.dictionary.store }
+        ensures entered { (a b : Written) → DescribesBoard (place + length (codes "(sum ")) first.now a → DescribesBoard (place + length (codes "(sum " ++ (spell_board a ++ codes " "))) second.now b → EntersSubject self.old.dictionary.room self.old.dictionary.rows place (sum a b) (answer_of result) self.new.dictionary.rows }
+        ensures room { self.new.dictionary.room ≡ self.old.dictionary.room }
     {
         let (left, right) = stand_both(first, second)?;
         let code = left.code * right.board.limit() + right.code;
@@ -74,10 +68,10 @@ impl<S: Store> Calculator<S> {
 
     // A text, which begins at a place of the line: a fault in it has its own place.
     fn enter_text(&mut self, text: &Part<'_>) -> Result<u16, CalculatorFault>
-        ensures entered { Kept (S.Store.rows self.old.dictionary.store) self.old.dictionary.tables → text.now.place + length text.now.bytes.now < 2 ^ 64 → ReadAt (S.Store.room self.old.dictionary.store) (S.Store.rows self.old.dictionary.store) text.now.place text.now.bytes.now (answer_of result) (S.Store.rows self.new.dictionary.store) }
-        ensures kept { Kept (S.Store.rows self.old.dictionary.store) self.old.dictionary.tables → Kept (S.Store.rows self.new.dictionary.store) self.new.dictionary.tables }
-        ensures room { S.Store.room self.new.dictionary.store ≡ S.Store.room self.old.dictionary.store }
+        ensures entered { text.now.place + length text.now.bytes.now < 2 ^ 64 → ReadAt self.old.dictionary.room self.old.dictionary.rows text.now.place text.now.bytes.now (answer_of result) self.new.dictionary.rows }
+        ensures room { self.new.dictionary.room ≡ self.old.dictionary.room }
     {
+        // not `map_err`: with no `?` behind it the check finds no proof of what it answers
         match read(&mut self.dictionary, text.bytes) {
             Ok(node) => Ok(node),
             Err(fault) => {
@@ -89,9 +83,8 @@ impl<S: Store> Calculator<S> {
 
     // What a line names, by what it is.
     pub(crate) fn enter_subject(&mut self, subject: &Subject<'_>) -> Result<u16, CalculatorFault>
-        ensures entered { Kept (S.Store.rows self.old.dictionary.store) self.old.dictionary.tables → (i : ℕ) (s : Named) → DescribesSubject i subject.now s → i + length (spell_subject s) < 2 ^ 64 → EntersSubject (S.Store.room self.old.dictionary.store) (S.Store.rows self.old.dictionary.store) i s (answer_of result) (S.Store.rows self.new.dictionary.store) }
-        ensures kept { Kept (S.Store.rows self.old.dictionary.store) self.old.dictionary.tables → Kept (S.Store.rows self.new.dictionary.store) self.new.dictionary.tables }
-        ensures room { S.Store.room self.new.dictionary.store ≡ S.Store.room self.old.dictionary.store }
+        ensures entered { (i : ℕ) (s : Named) → DescribesSubject i subject.now s → i + length (spell_subject s) < 2 ^ 64 → EntersSubject self.old.dictionary.room self.old.dictionary.rows i s (answer_of result) self.new.dictionary.rows }
+        ensures room { self.new.dictionary.room ≡ self.old.dictionary.room }
     {
         match &subject.content {
             Content::Plain(board) => self.enter_plain(subject.place, board),

@@ -3,19 +3,19 @@ ghost use Rattle.std.specs.Prelude.{◌≡◌};
 ghost use Rattle.calculator.specs.Faults.{buffer_fault_number, number_of, place_of};
 ghost use Rattle.calculator.specs.declared.fault.CalculatorFault.TheVariants.{Dictionary, Line, Print};
 
+use calls::fault::TextFault;
 use dictionary::fault::{DictionaryFault, PrintFault};
-use lines::fault::LineFault;
 use reading::fault::ReadFault;
 use rulesets::fault::BoardFault;
 use valuing::fault::ValueFault;
 
 // Why a line is answered by a fault, each fault below carried whole, and where in the line.
-#[derive(Clone, Copy)]
+#[derive(Clone, Copy, Debug, PartialEq, Eq)]
 pub enum CalculatorFault {
     // The line has more than 1,000 bytes.
     LongLine,
     // The line is not right.
-    Line(LineFault),
+    Line(TextFault),
     // The size of the board at this place is beyond its rules.
     Board { place: usize, fault: BoardFault },
     // The position of the board at this place is not legal.
@@ -64,10 +64,10 @@ impl CalculatorFault {
     }
 }
 
-impl From<LineFault> for CalculatorFault {
+impl From<TextFault> for CalculatorFault {
     ghost from_gives = { λ fault r. r ≡ Line fault };
 
-    fn from(value: LineFault) -> CalculatorFault {
+    fn from(value: TextFault) -> CalculatorFault {
         CalculatorFault::Line(value)
     }
 }
@@ -89,7 +89,7 @@ impl From<PrintFault> for CalculatorFault {
 }
 
 // Why a line is not answered at all.
-#[derive(Clone, Copy)]
+#[derive(Clone, Copy, Debug, PartialEq, Eq)]
 pub enum BufferFault {
     // The buffer has fewer than 4,096 bytes.
     Short,

@@ -19,6 +19,7 @@ pub fn lay(board: &Board<'_>) -> Result<Setup, CalculatorFault>
         Kind::Toads => set_up_toads(items),
         Kind::Hackenbush => set_up_hackenbush(items),
     };
+    // not `map_err`: with no `?` behind it the check finds no proof of what it answers
     match setup {
         Ok(setup) => Ok(setup),
         Err(fault) => Err(CalculatorFault::Board {

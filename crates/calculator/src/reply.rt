@@ -1,42 +1,32 @@
 // Replies to what a right line asks, written at the front of a buffer.
 ghost use Rattle.std.specs.Prelude.{◌≡◌, ℕ, ◌+◌, ◌^◌, ◌<◌, ◌≤◌, length};
 ghost use Rattle.games.specs.declared.side.Side.{Side};
-ghost use Rattle.dictionary.specs.Kept.{Kept};
 ghost use Rattle.lines.specs.Questions.{DescribesBoard, DescribesSubject};
 ghost use Rattle.lines.specs.Syntax.{Board as Written, Subject as Named, comparison, first_move, spell_subject, value};
-ghost use Rattle.calculator.specs.Replies.{board_place, comparison_text, first_place, move_text, second_place, value_place};
+ghost use Rattle.games.specs.Outcomes.{sign};
+ghost use Rattle.calculator.specs.Replies.{board_place, first_place, move_text, second_place, value_place};
 ghost use Rattle.calculator.specs.Written.{AtFront, Replied, WroteValue};
 
 use crate::calculator::Calculator;
 use crate::fault::CalculatorFault;
 use crate::laying::stand;
-use crate::writing::{digits, put_bytes, put_head, put_number};
+use crate::writing::{LONGEST, digits, put_bytes, put_head, put_number};
 use games::outcome::Comparison;
 use games::side::Side;
 use lines::question::{Board, Subject};
 use stores::store::Store;
-use valuing::remembering::first_move::first_move;
-
-// The longest answer, in bytes.
-const LONGEST: usize = 4096;
+use valuing::first_move::first_move_with;
 
 // Writes how two games compare.
-fn put_comparison(out: &mut [u8], comparison: Comparison) -> usize
-    requires { 4096 ≤ length out.old }
-    ensures behind { result ≡ length (comparison_text comparison) }
-    ensures written { AtFront out.old (comparison_text comparison) out.new }
+fn put_comparison(out: &mut [u8; LONGEST], comparison: Comparison) -> usize
+    ensures behind { result ≡ length (sign comparison) }
+    ensures written { AtFront out.old (sign comparison) out.new }
 {
-    match comparison {
-        Comparison::Less => put_bytes(out, 0, b"<"),
-        Comparison::Greater => put_bytes(out, 0, b">"),
-        Comparison::Equal => put_bytes(out, 0, b"="),
-        Comparison::Confused => put_bytes(out, 0, b"||"),
-    }
+    put_bytes(out, 0, comparison.sign().as_bytes())
 }
 
 // Writes the index of a move, or that there is none.
-fn put_move(out: &mut [u8], index: Option<usize>) -> usize
-    requires { 4096 ≤ length out.old }
+fn put_move(out: &mut [u8; LONGEST], index: Option<usize>) -> usize
     ensures behind { result ≡ length (move_text index) }
     ensures written { AtFront out.old (move_text index) out.new }
 {
@@ -49,9 +39,8 @@ fn put_move(out: &mut [u8], index: Option<usize>) -> usize
 impl<S: Store> Calculator<S> {
     // Writes a node's number, its outcome and its text. The text goes into what remains of the answer line behind the others,
     // and is printed first, so that nothing is written where it does not fit.
-    fn write_value(&self, node: u16, out: &mut [u8]) -> Result<usize, CalculatorFault>
-        requires { 4096 ≤ length out.old }
-        ensures { Kept (S.Store.rows self.now.dictionary.store) self.now.dictionary.tables → node < length (S.Store.rows self.now.dictionary.store) → WroteValue (S.Store.rows self.now.dictionary.store) node out.old out.new result }
+    fn write_value(&self, node: u16, out: &mut [u8; LONGEST]) -> Result<usize, CalculatorFault>
+        ensures { node < length self.now.dictionary.rows → WroteValue self.now.dictionary.rows node out.old out.new result }
     {
         let outcome = self.dictionary.outcome(node)?;
         let start = digits(node as usize) + 3;
@@ -64,12 +53,10 @@ impl<S: Store> Calculator<S> {
     pub(crate) fn reply_value(
         &mut self,
         subject: &Subject<'_>,
-        out: &mut [u8],
+        out: &mut [u8; LONGEST],
     ) -> Result<usize, CalculatorFault>
-        requires { 4096 ≤ length out.old }
-        ensures replied { Kept (S.Store.rows self.old.dictionary.store) self.old.dictionary.tables → (s : Named) → DescribesSubject value_place subject.now s → value_place + length (spell_subject s) < 2 ^ 64 → Replied (S.Store.room self.old.dictionary.store) (S.Store.rows self.old.dictionary.store) (value s) out.old out.new (S.Store.rows self.new.dictionary.store) result }
-        ensures kept { Kept (S.Store.rows self.old.dictionary.store) self.old.dictionary.tables → Kept (S.Store.rows self.new.dictionary.store) self.new.dictionary.tables }
-        ensures room { S.Store.room self.new.dictionary.store ≡ S.Store.room self.old.dictionary.store }
+        ensures replied { (s : Named) → DescribesSubject value_place subject.now s → value_place + length (spell_subject s) < 2 ^ 64 → Replied self.old.dictionary.room self.old.dictionary.rows (value s) out.old out.new self.new.dictionary.rows result }
+        ensures room { self.new.dictionary.room ≡ self.old.dictionary.room }
     {
         let node = self.enter_subject(subject)?;
         self.write_value(node, out)
@@ -80,12 +67,10 @@ impl<S: Store> Calculator<S> {
         &mut self,
         first: &Subject<'_>,
         second: &Subject<'_>,
-        out: &mut [u8],
+        out: &mut [u8; LONGEST],
     ) -> Result<usize, CalculatorFault>
-        requires { 4096 ≤ length out.old }
-        ensures replied { Kept (S.Store.rows self.old.dictionary.store) self.old.dictionary.tables → (s u : Named) → DescribesSubject first_place first.now s → DescribesSubject (second_place s) second.now u → first_place + length (spell_subject s) < 2 ^ 64 → second_place s + length (spell_subject u) < 2 ^ 64 → Replied (S.Store.room self.old.dictionary.store) (S.Store.rows self.old.dictionary.store) (comparison s u) out.old out.new (S.Store.rows self.new.dictionary.store) result }
-        ensures kept { Kept (S.Store.rows self.old.dictionary.store) self.old.dictionary.tables → Kept (S.Store.rows self.new.dictionary.store) self.new.dictionary.tables }
-        ensures room { S.Store.room self.new.dictionary.store ≡ S.Store.room self.old.dictionary.store }
+        ensures replied { (s u : Named) → DescribesSubject first_place first.now s → DescribesSubject (second_place s) second.now u → first_place + length (spell_subject s) < 2 ^ 64 → second_place s + length (spell_subject u) < 2 ^ 64 → Replied self.old.dictionary.room self.old.dictionary.rows (comparison s u) out.old out.new self.new.dictionary.rows result }
+        ensures room { self.new.dictionary.room ≡ self.old.dictionary.room }
     {
         let left = self.enter_subject(first)?;
         let right = self.enter_subject(second)?;
@@ -98,26 +83,21 @@ impl<S: Store> Calculator<S> {
         &mut self,
         side: Side,
         board: &Board<'_>,
-        out: &mut [u8],
+        out: &mut [u8; LONGEST],
     ) -> Result<usize, CalculatorFault>
-        requires { 4096 ≤ length out.old }
-        ensures replied { Kept (S.Store.rows self.old.dictionary.store) self.old.dictionary.tables → (b : Written) → DescribesBoard (board_place side) board.now b → Replied (S.Store.room self.old.dictionary.store) (S.Store.rows self.old.dictionary.store) (first_move side b) out.old out.new (S.Store.rows self.new.dictionary.store) result }
-        ensures kept { Kept (S.Store.rows self.old.dictionary.store) self.old.dictionary.tables → Kept (S.Store.rows self.new.dictionary.store) self.new.dictionary.tables }
-        ensures room { S.Store.room self.new.dictionary.store ≡ S.Store.room self.old.dictionary.store }
+        ensures replied { (b : Written) → DescribesBoard (board_place side) board.now b → Replied self.old.dictionary.room self.old.dictionary.rows (first_move side b) out.old out.new self.new.dictionary.rows result }
+        ensures room { self.new.dictionary.room ≡ self.old.dictionary.room }
     {
         let setup = stand(board)?;
-        match first_move(
+        let place = board.place;
+        let index = first_move_with(
             &mut self.dictionary,
             &mut self.memory,
             &setup.board,
             side,
             setup.code,
-        ) {
-            Ok(index) => Ok(put_move(out, index)),
-            Err(fault) => Err(CalculatorFault::Position {
-                place: board.place,
-                fault,
-            }),
-        }
+        )
+        .map_err(|fault| CalculatorFault::Position { place, fault })?;
+        Ok(put_move(out, index))
     }
 }

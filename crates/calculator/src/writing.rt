@@ -8,16 +8,18 @@ ghost use Rattle.calculator.specs.Replies.{fault_text, head_text};
 use crate::fault::CalculatorFault;
 use games::outcome::Outcome;
 
+// The longest answer, in bytes.
+pub const LONGEST: usize = 4096;
+
 // Writes some bytes.
 pub fn put_bytes(out: &mut [u8], place: usize, text: &[u8]) -> usize
     requires { place + length text.now ≤ length out.old }
     ensures behind { result ≡ place + length text.now }
     ensures written { out.new ≡ over out.old place text.now }
 {
-    for (i, byte) in text.iter().enumerate() {
-        out[place + i] = *byte;
-    }
-    place + text.len()
+    let end = place + text.len();
+    out[place..end].copy_from_slice(text);
+    end
 }
 
 // Writes a number in decimal digits.
@@ -47,8 +49,7 @@ pub fn digits(number: usize) -> usize
 }
 
 // Writes a fault at the front of a buffer: its number and its place.
-pub fn put_fault(out: &mut [u8], fault: CalculatorFault) -> usize
-    requires { 4096 ≤ length out.old }
+pub fn put_fault(out: &mut [u8; LONGEST], fault: CalculatorFault) -> usize
     ensures behind { result ≡ length (fault_text (number_of fault) (place_of fault)) }
     ensures written { out.new ≡ over out.old 0 (fault_text (number_of fault) (place_of fault)) }
 {
@@ -59,8 +60,7 @@ pub fn put_fault(out: &mut [u8], fault: CalculatorFault) -> usize
 }
 
 // Writes the head of a value at the front of a buffer: the node's number and its outcome, a space after each.
-pub fn put_head(out: &mut [u8], node: u16, outcome: Outcome) -> usize
-    requires { 4096 ≤ length out.old }
+pub fn put_head(out: &mut [u8; LONGEST], node: u16, outcome: Outcome) -> usize
     ensures behind { result ≡ length (head_text node outcome) }
     ensures written { out.new ≡ over out.old 0 (head_text node outcome) }
 {

@@ -4,6 +4,7 @@ pub mod Sealing
 pub mod Entering
 pub mod Positions
 pub mod Texts
+pub mod Faults
 pub mod Reading
 pub mod Asking
 pub mod Drafts

@@ -1,9 +1,8 @@
 -- What the tables tell of two nodes is how the nodes of the store compare.
 -- Assumes nothing.
-use Rattle.std.proofs.Common.{◌≡◌, ℕ, ◌<◌, ◌≤◌, Bool, true, false, not, ◌&&◌, ltb, ◌⊎◌, List, [], ◌∷◌, length, Ok, Err, Result, sym, refl, ap, ◌∙◌, subst, ap₂, inl, inr, arith, lt-ltb}
+use Rattle.std.proofs.Common.{◌≡◌, ℕ, ◌<◌, ◌≤◌, Bool, true, false, not, ◌&&◌, ltb, ◌⊎◌, List, [], ◌∷◌, length, sym, refl, ◌∙◌, subst, ap₂, inl, inr, arith, lt-ltb}
 use Rattle.std.specs.List.{AllByRecursion}
 use Rattle.games.specs.declared.outcome.Comparison.{Comparison}
-use Rattle.games.specs.declared.outcome.Outcome.{Outcome}
 use Rattle.games.specs.Form.{Form, 𝟎, form, ∅}
 use Rattle.games.specs.Numbered.{each}
 use Rattle.games.specs.Order.{ge}
@@ -14,8 +13,6 @@ use Rattle.calls.specs.Rows.{Rows, node}
 use Rattle.calls.specs.Answers.{told, refused}
 use Rattle.calls.specs.Asking.{Compares, TellsOutcome}
 use Rattle.calls.proofs.Rows.{node_law}
-use Rattle.dictionary.specs.declared.fault.DictionaryFault.{DictionaryFault}
-use Rattle.dictionary.specs.Faults.{answer_of, number_of}
 use Rattle.dictionary.specs.Kept.{Kept}
 use Rattle.dictionary.proofs.Tied.{agree, lower}
 
@@ -56,14 +53,6 @@ first_node rows t kept h = subst (λ r. 0 < length r → node r 0 ≡ 𝟎) (sym
 pub tells : (rows : Rows) (t : Tables) → Kept rows t → (n : ℕ) (x : Comparison) → Compares rows n 0 (told x) → TellsOutcome rows n (told (against_zero x))
 tells rows t kept n x (Compares.known h l) = subst (λ g. TellsOutcome rows n (told (against_zero (compare (node rows n) g)))) (sym (first_node rows t kept l)) (TellsOutcome.known h)
 
-pub tells_as : (rows : Rows) (t : Tables) → Kept rows t → (n : ℕ) (r : Result Comparison DictionaryFault) (x y : Comparison) → r ≡ Ok x → x ≡ y
-    → Compares rows n 0 (answer_of r) → TellsOutcome rows n (told (against_zero y))
-tells_as rows t kept n r x y e f k = tells rows t kept n y (subst (λ z. Compares rows n 0 (answer_of z)) (e ∙ ap Ok f) k)
-
-tells_not : (rows : Rows) (n k : ℕ) → Compares rows n 0 (refused k) → TellsOutcome rows n (refused k)
+pub tells_not : (rows : Rows) (n k : ℕ) → Compares rows n 0 (refused k) → TellsOutcome rows n (refused k)
 tells_not rows n k (Compares.unknown (inl h)) = TellsOutcome.unknown h
 tells_not rows n k (Compares.unknown (inr h)) = TellsOutcome.unknown (omega arith)
-
-pub tells_fault : (rows : Rows) (n : ℕ) (r : Result Comparison DictionaryFault) (q : Result Outcome DictionaryFault) (f : DictionaryFault) → r ≡ Err f → q ≡ Err f
-    → Compares rows n 0 (answer_of r) → TellsOutcome rows n (answer_of q)
-tells_fault rows n r q f e d k = subst (λ z. TellsOutcome rows n (answer_of z)) (sym d) (tells_not rows n (number_of f) (subst (λ z. Compares rows n 0 (answer_of z)) e k))

@@ -1,6 +1,6 @@
 -- A store has no row with more than 16 numbers on a side.
 -- Assumes nothing.
-use Rattle.std.proofs.Common.{◌≡◌, ℕ, ◌≤◌, true, leb, List, length, Some, None, subst, arith}
+use Rattle.std.proofs.Common.{◌≡◌, ℕ, ◌≤◌, Bool, true, false, cond, ◌&&◌, leb, List, length, Some, None, subst, arith}
 use Rattle.std.proofs.lemmas.Bool.{le-leb}
 use Rattle.games.specs.declared.side.Side.TheVariants.{Left, Right}
 use Rattle.games.specs.Numbered.{Lists, list_of}
@@ -19,3 +19,11 @@ none_so_long rows room law x y e = lowest_is rows l None (λ k a b h. never (sub
         let t : leb (length y) 16 ≡ true = le-leb (length y) 16 q in
         let r : row_of_lists x y ≡ Some (record { left = x; right = y }) = simp (s, t) in
         let z : ◌≡◌ {A = ℕ} 0 1 = cc in omega arith
+
+-- the row of two lists has just them
+pub lists_in : (x y : List ℕ) (l : Lists) → Some l ≡ row_of_lists x y → l ≡ record { left = x; right = y }
+lists_in x y l = go (leb (length x) 16 && leb (length y) 16)
+  where
+    go : (b : Bool) → Some l ≡ cond b (Some (record { left = x; right = y })) None → l ≡ record { left = x; right = y }
+    go true e = cc
+    go false e = let z : ◌≡◌ {A = ℕ} 0 1 = cc in absurd (omega arith)

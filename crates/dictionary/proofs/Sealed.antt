@@ -1,6 +1,6 @@
 -- What the tables find is what sealing answers.
 -- Assumes nothing.
-use Rattle.std.proofs.Common.{◌≡◌, ℕ, suc, ◌<◌, ◌≤◌, List, [], ◌∷◌, ◌++◌, length, Some, None, vec_items, Option, sym, refl, ap, ◌∙◌, subst, inl, inr, arith}
+use Rattle.std.proofs.Common.{◌≡◌, ℕ, suc, ◌<◌, ◌≤◌, List, [], ◌∷◌, ◌++◌, length, Some, None, vec_items, Option, sym, refl, ap, ◌∙◌, subst, inl, inr, arith, Ok, Err}
 use Rattle.games.specs.declared.side.Side.TheVariants.{Left, Right}
 use Rattle.games.specs.Form.{Form}
 use Rattle.games.specs.Numbered.{Lists, each, form_by}
@@ -8,7 +8,10 @@ use Rattle.games.specs.Order.{◌≈◌}
 use Rattle.games.proofs.Order.{≈_sym}
 use Rattle.nodesets.specs.Pairs.{Sets, Within}
 use Rattle.sealing.specs.declared.tables.Tables.{Tables}
-use Rattle.sealing.specs.declared.seal.Seal.TheVariants.{Node, Wide}
+use Rattle.sealing.specs.declared.seal.SealFault.{SealFault}
+use Rattle.sealing.specs.declared.seal.SealFault.TheVariants.{Unknown, Wide}
+use Rattle.sealing.specs.declared.seal.Sealed.TheVariants.{Node}
+use Rattle.dictionary.specs.Faults.{number_of, seal_fault}
 use Rattle.sealing.specs.Seals.{CanonicalRow, Extended, Fresh, NewRow, SealsTo, count, form_of, row_of, rows_of}
 use Rattle.sealing.specs.Seals.{Narrow as NarrowRow}
 use Rattle.sealing.proofs.Sealing.{row_below, row_one}
@@ -75,11 +78,15 @@ module _ (rows : Rows) (t : Tables) (kept : Kept rows t) (room : ℕ) (o : Sets)
   pub seals_unknown : (Within (count t) o → ⊥) → SealsNumbers room rows l (refused 1) rows
   seals_unknown f = SealsNumbers.unknown (λ b. f (lists_within (count t) o l lists (subst (λ r. Below (length r) l) kept b)))
 
-  pub seals_node : (k : ℕ) → SealsTo (Node k) t o → SealsNumbers room rows l (told k) rows
+  pub seals_node : (k : ℕ) → SealsTo (Ok (Node k)) t o → SealsNumbers room rows l (told k) rows
   seals_node k (w, h, e) = same_rows w (told k) (found k h (subst (λ g. g ≈ form_of t o) (agree t k h) (≈_sym e)))
 
-  pub seals_wide : SealsTo Wide t o → SealsNumbers room rows l (refused 2) rows
+  pub seals_wide : SealsTo (Err Wide) t o → SealsNumbers room rows l (refused 2) rows
   seals_wide (w, f, (m, row, wide)) = same_rows w (refused 2) (too_wide (fresh_new t o f) (form_by (node (rows_of t)) m) (canonical_form t o m row) (λ n. wide (narrow_row (node (rows_of t)) m n)))
+
+  pub seals_refused : (f : SealFault) → SealsTo (Err f) t o → SealsNumbers room rows l (refused (number_of (seal_fault f))) rows
+  seals_refused Unknown x = seals_unknown x
+  seals_refused Wide x = seals_wide x
 
   pub seals_full : (r : Lists) → NewRow t o r → room ≤ count t → SealsNumbers room rows l (refused 3) rows
   seals_full r n h = same_rows n.within (refused 3) (no_place (fresh_new t o n.fresh) (form_by (node (rows_of t)) r) (canonical_form t o r n.row) (narrow_form (node (rows_of t)) r n.narrow) h)

@@ -1,13 +1,15 @@
 -- The nodes of the tables are the nodes of their rows.
 -- Assumes nothing.
-use Rattle.std.proofs.Common.{◌≡◌, ℕ, zero, suc, ◌<◌, sym, ◌∙◌, arith}
+use Rattle.std.proofs.Common.{◌≡◌, ℕ, zero, suc, ◌<◌, sym, ap, ◌∙◌, arith}
 use Rattle.games.specs.declared.side.Side.TheVariants.{Left, Right}
 use Rattle.games.specs.Numbered.{Lists, form_by}
 use Rattle.sealing.specs.declared.tables.Tables.{Tables}
 use Rattle.sealing.specs.Seals.{count, node_of, row_at, rows_of}
 use Rattle.sealing.proofs.Sealing.{count_is, sound}
-use Rattle.calls.specs.Rows.{Below, node}
+use Rattle.calls.specs.Rows.{Below, Rows, node}
 use Rattle.calls.proofs.Rows.{form_by_same, node_law}
+use Rattle.dictionary.specs.Holding.{Holding}
+use Rattle.dictionary.specs.Kept.{Kept}
 
 -- there are at most 384 nodes
 pub few : (t : Tables) → count t < 385
@@ -30,3 +32,14 @@ module _ (t : Tables) where
   -- so the forms of lists of nodes are the same too
   pub agree_form : (l : Lists) → Below (count t) l → form_by (node_of t) l ≡ form_by (node (rows_of t)) l
   agree_form l b = form_by_same (count t) (node_of t) (node (rows_of t)) agree l b
+
+-- a dictionary's rows are those of the store inside it
+pub rows_inside : (rows : Rows) (room : ℕ) (h : Holding) → record { rows = rows; room = room } ≡ h → rows ≡ h.rows
+rows_inside rows room h e = ap (λ (x : Holding). x.rows) e
+
+-- so they are the rows that its tables describe
+pub kept_inside : (rows : Rows) (room : ℕ) (h : Holding) (t : Tables) → record { rows = rows; room = room } ≡ h → Kept rows t → Kept h.rows t
+kept_inside rows room h t e kept = sym (rows_inside rows room h e) ∙ kept
+
+pub room_inside : (rows : Rows) (room : ℕ) (h : Holding) → record { rows = rows; room = room } ≡ h → room ≡ h.room
+room_inside rows room h e = ap (λ (x : Holding). x.room) e

@@ -1,6 +1,8 @@
 -- What a call of the dictionary answers, in the words of the calls.
 -- Assumes nothing.
 use Rattle.std.specs.Prelude.{ℕ, Ok, Err, Result}
+use Rattle.sealing.specs.declared.seal.SealFault.{SealFault}
+use Rattle.sealing.specs.declared.seal.SealFault.TheVariants
 use Rattle.stores.specs.Faults
 use Rattle.calls.specs.Answers.{Answer, told, refused}
 use Rattle.dictionary.specs.declared.fault.DictionaryFault.{DictionaryFault}
@@ -13,6 +15,11 @@ abbrev pub number_of : DictionaryFault → ℕ
 number_of Unknown = 1
 number_of Wide = 2
 number_of (Store f) = Faults.number_of f
+
+-- a refused seal, as a fault of the dictionary
+abbrev pub seal_fault : SealFault → DictionaryFault
+seal_fault TheVariants.Unknown = Unknown
+seal_fault TheVariants.Wide = Wide
 
 -- what is told, or a refusal by its number
 abbrev pub answer_of : {A : Type 0} → Result A DictionaryFault → Answer A

@@ -1,21 +1,33 @@
 // A dictionary: a store of rows, and the tables that the rows make.
 ghost use Rattle.std.specs.Prelude.{◌≡◌, [], IfOk};
-ghost use Rattle.dictionary.specs.Kept.{Kept};
 
 use sealing::tables::Tables;
 use std::alloc::{AllocError, Global};
+use std::marker::Model;
 use stores::store::Store;
 
 #[derive(Drop)]
-pub struct Dictionary<S> {
+pub struct Dictionary<S: Store> {
     pub(crate) store: S,
     pub(crate) tables: Tables,
+}
+
+// To a caller a dictionary is its rows and the room for them; the tables are those that the rows make.
+impl<S: Store> Model for Dictionary<S> {
+    ghost use Rattle.dictionary.specs.Holding.{Holding};
+    ghost use Rattle.dictionary.specs.Kept.{Kept};
+
+    ghost Value = { Holding };
+
+    ghost view = { λ d. record { rows = S.Store.rows d.store; room = S.Store.room d.store } };
+
+    ghost invariant = { λ d. Kept (S.Store.rows d.store) d.tables };
 }
 
 impl<S: Store + Drop> Dictionary<S> {
     // A dictionary without nodes over the store, whose rows go. There may be no memory for its tables.
     pub fn begin(heap: Global, store: S) -> Result<Dictionary<S>, AllocError>
-        ensures { IfOk result (λ d. (S.Store.rows d.store ≡ []) × (S.Store.room d.store ≡ S.Store.room store) × Kept (S.Store.rows d.store) d.tables) }
+        ensures { IfOk result (λ d. (d.rows ≡ []) × (d.room ≡ S.Store.room store)) }
     {
         let tables = Tables::new(heap)?;
         let mut store = store;

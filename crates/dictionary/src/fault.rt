@@ -1,12 +1,13 @@
 // Why a dictionary refuses.
 ghost use Rattle.std.specs.Prelude.{◌≡◌};
-ghost use Rattle.dictionary.specs.Faults.{number_of, print_fault_number};
+ghost use Rattle.dictionary.specs.Faults.{number_of, print_fault_number, seal_fault};
 ghost use Rattle.dictionary.specs.declared.fault.DictionaryFault.TheVariants.{Store};
 
+use sealing::seal::SealFault;
 use stores::fault::StoreFault;
 
 // Why a dictionary refuses a call.
-#[derive(Clone, Copy)]
+#[derive(Clone, Copy, Debug, PartialEq, Eq)]
 pub enum DictionaryFault {
     // A number is not a node's.
     Unknown,
@@ -29,6 +30,17 @@ impl DictionaryFault {
     }
 }
 
+impl From<SealFault> for DictionaryFault {
+    ghost from_gives = { λ fault r. r ≡ seal_fault fault };
+
+    fn from(value: SealFault) -> DictionaryFault {
+        match value {
+            SealFault::Unknown => DictionaryFault::Unknown,
+            SealFault::Wide => DictionaryFault::Wide,
+        }
+    }
+}
+
 impl From<StoreFault> for DictionaryFault {
     ghost from_gives = { λ fault r. r ≡ Store fault };
 
@@ -38,7 +50,7 @@ impl From<StoreFault> for DictionaryFault {
 }
 
 // Why a node is not printed.
-#[derive(Clone, Copy)]
+#[derive(Clone, Copy, Debug, PartialEq, Eq)]
 pub enum PrintFault {
     // The number is not a node's.
     Unknown,

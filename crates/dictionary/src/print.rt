@@ -79,15 +79,13 @@ fn write_options<S: Store>(store: &S, side: Side, node: u16, out: &mut [u8], pla
 impl<S: Store> Dictionary<S> {
     // Writes the text of a node at the front of a buffer, which stays as it was behind it, and answers how long the text is.
     pub fn print(&self, node: u16, out: &mut [u8]) -> Result<usize, PrintFault>
-        ensures printed { Printed (S.Store.rows self.now.store) node out.old (print_answer result) out.new }
-        ensures step { PrintSteps (S.Store.rows self.now.store) node (print_answer result) out.new }
+        ensures printed { Printed self.now.rows node out.old (print_answer result) out.new }
+        ensures step { PrintSteps self.now.rows node (print_answer result) out.new }
     {
         if node as usize >= self.store.count() {
             return Err(PrintFault::Unknown);
         }
-        match spend(&self.store, node, out.len().min(LONGEST)) {
-            Some(_) => Ok(write(&self.store, node, out, 0)),
-            None => Err(PrintFault::Long),
-        }
+        spend(&self.store, node, out.len().min(LONGEST)).ok_or(PrintFault::Long)?;
+        Ok(write(&self.store, node, out, 0))
     }
 }

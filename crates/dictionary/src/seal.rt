@@ -1,17 +1,18 @@
 // Sealing: the node that equals the form of two sets of nodes, which is added where there is none.
-ghost use Rattle.std.specs.Prelude.{◌≡◌};
+ghost use Rattle.std.specs.Prelude.{◌≡◌, ◌<◌, IfOk};
 ghost use Rattle.std.specs.Option.{option_map};
 ghost use Rattle.games.specs.Numbered.{Lists};
 ghost use Rattle.nodesets.specs.Pairs.{by};
 ghost use Rattle.stores.specs.Reading.{lists_of};
 ghost use Rattle.calls.specs.Sealing.{SealsNumbers};
+ghost use Rattle.calls.specs.Sound.{Sound};
 ghost use Rattle.dictionary.specs.Faults.{answer_of};
-ghost use Rattle.dictionary.specs.Kept.{Kept, ListsOf, row_for};
+ghost use Rattle.dictionary.specs.Kept.{ListsOf, row_for};
 
 use crate::dictionary::Dictionary;
 use crate::fault::DictionaryFault;
 use nodesets::pair::Pair;
-use sealing::seal::Seal;
+use sealing::seal::Sealed;
 use sealing::tables::Tables;
 use stores::row::Row;
 use stores::store::Store;
@@ -30,18 +31,15 @@ fn row(tables: &Tables, form: &Pair) -> Option<Row>
 impl<S: Store> Dictionary<S> {
     // The node that equals the form of the two sets; where there is none, the row of its canonical form is added.
     pub fn seal(&mut self, moves: &Pair) -> Result<u16, DictionaryFault>
-        ensures seals { Kept (S.Store.rows self.old.store) self.old.tables → (l : Lists) → ListsOf (by moves.now) l → SealsNumbers (S.Store.room self.old.store) (S.Store.rows self.old.store) l (answer_of result) (S.Store.rows self.new.store) }
-        ensures kept { Kept (S.Store.rows self.old.store) self.old.tables → Kept (S.Store.rows self.new.store) self.new.tables }
-        ensures room { S.Store.room self.new.store ≡ S.Store.room self.old.store }
+        ensures seals { (l : Lists) → ListsOf (by moves.now) l → SealsNumbers self.old.room self.old.rows l (answer_of result) self.new.rows }
+        ensures room { self.new.room ≡ self.old.room }
+        ensures small { IfOk result (λ node. node < 384) }
+        ensures sound { Sound self.old.rows }
     {
-        match self.tables.find(moves) {
-            Seal::Unknown => Err(DictionaryFault::Unknown),
-            Seal::Wide => Err(DictionaryFault::Wide),
-            Seal::Node(node) => Ok(node as u16),
-            Seal::New(form) => {
-                let Some(row) = row(&self.tables, &form) else {
-                    return Err(DictionaryFault::Wide);
-                };
+        match self.tables.find(moves)? {
+            Sealed::Node(node) => Ok(node as u16),
+            Sealed::New(form) => {
+                let row = row(&self.tables, &form).ok_or(DictionaryFault::Wide)?;
                 let node = self.store.append(row)?;
                 let _ = self.tables.extend(moves);
                 Ok(node)

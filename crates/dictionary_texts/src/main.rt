@@ -1,27 +1,16 @@
 // A dictionary over each store: a few forms sealed from the nodes before them, their outcomes and texts, and how they compare.
 #![tactic(auto)]
 
+use demos::samples::{FORMS, PAIRS, pair};
+use demos::shown::{Demo, Shown, begin, over_both};
+use demos::told::{compare, tell_sealed};
 use dictionary::dictionary::Dictionary;
-use dictionary::fault::DictionaryFault;
-use games::outcome::Comparison;
 use games::side::Side;
-use hashed_store::table::HashTable;
 use nodesets::pair::Pair;
-use ordered_store::ordered::OrderedList;
 use stores::store::Store;
 
-// The forms {|}, {0|}, {|0}, {0|0}, {0,1|}, {*|*}, {0|1} and {0|*}, by the nodes of their options, and a form with an option that is no node.
-const FORMS: [(&'static str, &'static [u16], &'static [u16]); 9] = [
-    ("{|}", &[], &[]),
-    ("{0|}", &[0], &[]),
-    ("{|0}", &[], &[0]),
-    ("{0|0}", &[0], &[0]),
-    ("{0,1|}", &[0, 1], &[]),
-    ("{*|*}", &[3], &[3]),
-    ("{0|1}", &[0], &[1]),
-    ("{0|*}", &[0], &[3]),
-    ("{9|}", &[9], &[]),
-];
+// How many rows the stores of forms have room for: one fewer than would be wanted.
+const ROWS: usize = 6;
 
 // The size of the buffer that nodes are printed into.
 const BUFFER: usize = 16;
@@ -31,31 +20,54 @@ const HEAPS: usize = 10;
 
 const LONG_TEXT: usize = 65_609;
 
-fn main(rt: HostRuntime) -> anyhow::Result<()> {
-    run(&rt)
+struct Texts;
+
+impl Demo for Texts {
+    fn over<S: Shown>(&self, rt: &HostRuntime) -> anyhow::Result<()> {
+        println!(rt; "over {} of {ROWS} rows", S::NAME)?;
+        forms(rt, &mut begin::<S>(rt.alloc(), ROWS)?)?;
+        heaps(rt, &mut begin::<S>(rt.alloc(), HEAPS)?)
+    }
 }
 
-fn run(rt: &HostRuntime) -> anyhow::Result<()> {
-    if let Ok(store) = OrderedList::new(rt.alloc(), 6) {
-        println!(rt; "over an ordered list of 6 rows")?;
-        show(rt, store)?;
+fn main(rt: HostRuntime) -> anyhow::Result<()> {
+    over_both(&rt, &Texts)
+}
+
+fn forms<S: Store>(rt: &HostRuntime, dictionary: &mut Dictionary<S>) -> anyhow::Result<()> {
+    for (name, left, right) in FORMS {
+        let sealed = dictionary.seal(&pair(left, right));
+        tell_sealed(rt, dictionary, name, sealed)?;
+        if let Ok(node) = sealed {
+            print(rt, dictionary, node, BUFFER)?;
+        }
     }
-    if let Ok(store) = OrderedList::new(rt.alloc(), HEAPS) {
-        heaps(rt, store)?;
+    // the text of 1 has 6 bytes, and node 6 is unknown
+    for (node, room) in [(1, 6), (1, 5), (6, 0)] {
+        print(rt, dictionary, node, room)?;
     }
-    if let Ok(store) = HashTable::new(rt.alloc(), 6) {
-        println!(rt; "over a hash-consed table of 6 rows")?;
-        show(rt, store)?;
+    compare(rt, dictionary, &PAIRS)
+}
+
+// Prints a node into the first bytes of a buffer, as many as there is room for, and shows the whole buffer.
+fn print<S: Store>(
+    rt: &HostRuntime,
+    dictionary: &Dictionary<S>,
+    node: u16,
+    room: usize,
+) -> anyhow::Result<()> {
+    let mut buffer = [b'.'; BUFFER];
+    print!(rt; "  node {node} into {room} bytes: ")?;
+    match dictionary.print(node, &mut buffer[..room.min(BUFFER)]) {
+        Ok(length) => println!(rt; "wrote {length}")?,
+        Err(fault) => println!(rt; "refused with {}", fault.number())?,
     }
-    if let Ok(store) = HashTable::new(rt.alloc(), HEAPS) {
-        heaps(rt, store)?;
-    }
+    println!(rt; "  {}", std::str::from_utf8(&buffer)?)?;
     Ok(())
 }
 
 // Heaps of nim, from each of which both sides move to every smaller heap. There is room for every text, but that of the heap of 9 is too long to be printed.
-fn heaps<S: Store + Drop>(rt: &HostRuntime, store: S) -> anyhow::Result<()> {
-    let mut dictionary = Dictionary::begin(rt.alloc(), store)?;
+fn heaps<S: Store>(rt: &HostRuntime, dictionary: &mut Dictionary<S>) -> anyhow::Result<()> {
     let mut smaller = Pair::empty();
     for heap in 0..HEAPS {
         if let Ok(node) = dictionary.seal(&smaller) {
@@ -66,85 +78,6 @@ fn heaps<S: Store + Drop>(rt: &HostRuntime, store: S) -> anyhow::Result<()> {
                 Err(fault) => println!(rt; "heap of {heap}: refused with {}", fault.number())?,
             }
         }
-    }
-    Ok(())
-}
-
-fn show<S: Store + Drop>(rt: &HostRuntime, store: S) -> anyhow::Result<()> {
-    let mut dictionary = Dictionary::begin(rt.alloc(), store)?;
-    for (text, left, right) in FORMS {
-        match dictionary.seal(&pair(left, right)) {
-            Ok(node) => tell(rt, &dictionary, text, node)?,
-            Err(fault) => println!(rt; "{text}: refused with {}", fault.number())?,
-        }
-    }
-    // the text of 1 has 6 bytes, and node 6 is unknown
-    for (node, room) in [(1, 6), (1, 5), (6, 0)] {
-        print(rt, &dictionary, node, room, &mut [b'.'; BUFFER])?;
-    }
-    for (a, b) in [(1, 0), (2, 3), (0, 3), (4, 4), (0, 6)] {
-        compare(rt, &dictionary, a, b)?;
-    }
-    Ok(())
-}
-
-// The two sets of nodes.
-fn pair(left: &[u16], right: &[u16]) -> Pair {
-    let mut pair = Pair::empty();
-    for node in left {
-        pair.insert(Side::Left, *node as usize);
-    }
-    for node in right {
-        pair.insert(Side::Right, *node as usize);
-    }
-    pair
-}
-
-fn tell<S: Store>(
-    rt: &HostRuntime,
-    dictionary: &Dictionary<S>,
-    text: &str,
-    node: u16,
-) -> anyhow::Result<()> {
-    match dictionary.outcome(node) {
-        Ok(outcome) => println!(rt; "{text}: node {node}, outcome {}", outcome.letter())?,
-        Err(fault) => println!(rt; "{text}: node {node}, refused with {}", fault.number())?,
-    }
-    print(rt, dictionary, node, BUFFER, &mut [b'.'; BUFFER])
-}
-
-// Prints a node into the first bytes of a buffer, as many as there is room for, and shows the whole buffer.
-fn print<S: Store>(
-    rt: &HostRuntime,
-    dictionary: &Dictionary<S>,
-    node: u16,
-    room: usize,
-    buffer: &mut [u8],
-) -> anyhow::Result<()> {
-    let end = room.min(buffer.len());
-    match dictionary.print(node, &mut buffer[0..end]) {
-        Ok(length) => println!(rt; "  node {node} into {room} bytes: wrote {length}")?,
-        Err(fault) => println!(rt;
-            "  node {node} into {room} bytes: refused with {}",
-            fault.number()
-        )?,
-    }
-    println!(rt; "  {}", std::str::from_utf8(buffer)?)?;
-    Ok(())
-}
-
-fn compare<S: Store>(
-    rt: &HostRuntime,
-    dictionary: &Dictionary<S>,
-    a: u16,
-    b: u16,
-) -> anyhow::Result<()> {
-    match dictionary.compare(a, b) {
-        Ok(Comparison::Less) => println!(rt; "{a} < {b}")?,
-        Ok(Comparison::Greater) => println!(rt; "{a} > {b}")?,
-        Ok(Comparison::Equal) => println!(rt; "{a} = {b}")?,
-        Ok(Comparison::Confused) => println!(rt; "{a} || {b}")?,
-        Err(fault) => println!(rt; "{a} and {b}: refused with {}", fault.number())?,
     }
     Ok(())
 }

@@ -2,6 +2,7 @@
 -- Assumes nothing.
 use Rattle.std.proofs.Common.{◌≡◌, ℕ, ◌+◌, ◌-◌, ◌*◌, ◌/◌, ◌%◌, ◌^◌, ◌<◌, Bool, true, false, not, ◌&&◌, ◌||◌, eqb, ltb, sym, refl, ap, ◌∙◌, ap₂, inl, inr, arith}
 use lib.Bits.{bit_and, bit_or}
+use Rattle.std.specs.Bool.{then_some}
 use Rattle.std.proofs.lemmas.Nat.{mod_below, or_lt, pow_below}
 use Rattle.std.proofs.lemmas.Bool.{cases_eq, cases_lt, cases_order, eq-eqb, ne_eqb, lt-ltb, le-ltb}
 use Rattle.bits.specs.Bits.{bit}
@@ -9,7 +10,13 @@ use Rattle.bits.proofs.Words.{bit_and_lem, bit_or_lem, bit_mask, bit_not, bit_no
 use Rattle.games.specs.declared.side.Side.{Side}
 use Rattle.games.specs.declared.side.Side.TheVariants.{Left, Right}
 use Rattle.domineering.specs.Domineering.{sized, free, fits, reach, goes_on, covered}
+use Rattle.domineering.specs.Told.{Told}
 use Rattle.domineering.specs.Size.{cells_high}
+
+-- a mask that is told when the code is legal
+pub told_when : (legal : Bool) (p : ℕ → Bool) (mask : ℕ) → ((i : ℕ) → bit mask i ≡ p i) → Told legal p (then_some legal mask)
+told_when true p mask f = (refl, f)
+told_when false p mask f = refl
 
 -- ---- the empty cells, and the first cells of dominoes that fit
 

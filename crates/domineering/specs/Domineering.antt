@@ -37,6 +37,10 @@ fits s r c n i = free (r * c) n i && (free (r * c) n (i + reach s c) && lies s c
 abbrev pub covered : Side → ℕ → ℕ → ℕ → ℕ
 covered s c n i = bit_or (bit_or n (2 ^ i)) (2 ^ (i + reach s c))
 
+-- every code below the limit is legal
+abbrev pub legal : ℕ → ℕ → ℕ → Bool
+legal r c n = nat_lt n (2 ^ (r * c))
+
 -- The rules on r rows of c cells: every code below the limit is legal, successors go by the domino's first cell,
 -- and the rank is half the number of empty cells.
 abbrev pub domineering : ℕ → ℕ → Rules
@@ -44,7 +48,7 @@ domineering r c = record {
   limit = 2 ^ (r * c);
   width = 30;
   depth = 15;
-  legal = λ n. nat_lt n (2 ^ (r * c));
-  rank = λ n. cond (nat_lt n (2 ^ (r * c))) (length (places (r * c) (free (r * c) n)) / 2) 0;
-  moves = λ s n. cond (nat_lt n (2 ^ (r * c))) (map (covered s c n) (places (r * c) (fits s r c n))) [];
+  legal = legal r c;
+  rank = λ n. cond (legal r c n) (length (places (r * c) (free (r * c) n)) / 2) 0;
+  moves = λ s n. cond (legal r c n) (map (covered s c n) (places (r * c) (fits s r c n))) [];
 }

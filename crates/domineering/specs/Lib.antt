@@ -3,3 +3,4 @@ pub mod Making
 pub mod Lawful
 pub mod Size
 pub mod Moves
+pub mod Told

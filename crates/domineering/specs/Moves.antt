@@ -5,9 +5,10 @@ use Rattle.std.proofs.Common.{sym, ◌∙◌, ap, arith}
 use Rattle.std.specs.List.{slice_get}
 use Rattle.std.specs.Option.{option_map}
 use Rattle.std.proofs.lemmas.List.{length-map}
+use Rattle.std.proofs.lemmas.Option.{slice_get-map}
 use Rattle.std.proofs.lemmas.Bool.{and_left, and_parts, le-ltb, ltb-true}
 use Rattle.bits.specs.Bits.{bit, places}
-use Rattle.bits.proofs.Places.{places_cong, places_more, all_places, nth_map, nth_all}
+use Rattle.bits.proofs.Places.{places_cong, places_more, all_places, nth_all}
 use Rattle.games.specs.declared.side.Side.{Side}
 use Rattle.domineering.specs.Domineering.{sized, free, fits, lies, reach, covered, domineering}
 use Rattle.domineering.specs.Size.{cells_high}
@@ -48,10 +49,10 @@ module _ (r c n : ℕ) (size : sized r c ≡ true) (legal : (domineering r c).le
     count_is = sym (ap length moves_are ∙ length-map (places 64 (bit w)) (covered s c n))
 
     pub successor_none : (k : ℕ) → slice_get (places 64 (bit w)) k ≡ None → slice_get ((domineering r c).moves s n) k ≡ None
-    successor_none k e = ap (λ xs. slice_get xs k) moves_are ∙ nth_map (covered s c n) (places 64 (bit w)) k ∙ ap (option_map (covered s c n)) e
+    successor_none k e = ap (λ xs. slice_get xs k) moves_are ∙ slice_get-map (covered s c n) (places 64 (bit w)) k ∙ ap (option_map (covered s c n)) e
 
     pub successor_some : (k i : ℕ) → slice_get (places 64 (bit w)) k ≡ Some i → slice_get ((domineering r c).moves s n) k ≡ Some (covered s c n i)
-    successor_some k i e = ap (λ xs. slice_get xs k) moves_are ∙ nth_map (covered s c n) (places 64 (bit w)) k ∙ ap (option_map (covered s c n)) e
+    successor_some k i e = ap (λ xs. slice_get xs k) moves_are ∙ slice_get-map (covered s c n) (places 64 (bit w)) k ∙ ap (option_map (covered s c n)) e
 
     -- a domino that is found lies on the board
     pub found_on : (k i : ℕ) → slice_get (places 64 (bit w)) k ≡ Some i → i + reach s c < r * c

@@ -4,7 +4,6 @@ ghost use Rattle.games.specs.Numbered.{Lists};
 ghost use Rattle.calls.specs.Rows.{no_numbers};
 ghost use Rattle.calls.specs.Sealing.{SealsNumbers};
 ghost use Rattle.dictionary.specs.Faults.{answer_of};
-ghost use Rattle.dictionary.specs.Kept.{Kept};
 ghost use Rattle.drafts.specs.Holding.{Holds};
 ghost use Rattle.drafts.specs.Promise.{OneGameOneNumberOneText};
 ghost use Rattle.drafts.specs.Steps.{SealSteps, SealingCallsStep};
@@ -22,11 +21,10 @@ pub fn seal<S: Store>(
     draft: &mut Draft,
     slip: Slip,
 ) -> Result<u16, DictionaryFault>
-    ensures seals { Kept (S.Store.rows dictionary.old.store) dictionary.old.tables → (l : Lists) → Holds draft.old l → SealsNumbers (S.Store.room dictionary.old.store) (S.Store.rows dictionary.old.store) l (answer_of result) (S.Store.rows dictionary.new.store) }
+    ensures seals { (l : Lists) → Holds draft.old l → SealsNumbers dictionary.old.room dictionary.old.rows l (answer_of result) dictionary.new.rows }
     ensures empty { Holds draft.new no_numbers }
-    ensures step { Kept (S.Store.rows dictionary.old.store) dictionary.old.tables → SealSteps (S.Store.room dictionary.old.store) (S.Store.rows dictionary.old.store) draft.old (answer_of result) (S.Store.rows dictionary.new.store) draft.new }
-    ensures kept { Kept (S.Store.rows dictionary.old.store) dictionary.old.tables → Kept (S.Store.rows dictionary.new.store) dictionary.new.tables }
-    ensures room { S.Store.room dictionary.new.store ≡ S.Store.room dictionary.old.store }
+    ensures step { SealSteps dictionary.old.room dictionary.old.rows draft.old (answer_of result) dictionary.new.rows draft.new }
+    ensures room { dictionary.new.room ≡ dictionary.old.room }
     ensures others { SealingCallsStep }
     ensures law { OneGameOneNumberOneText }
 {

@@ -2,18 +2,21 @@
 // and a position whose game was drafted is valued.
 #![tactic(auto)]
 
+use demos::shown::{Demo, Shown, begin, over_both};
+use demos::told::text;
 use dictionary::dictionary::Dictionary;
 use domineering::board::Board;
 use drafts::draft::Draft;
 use drafts::seal::seal;
 use drafts::slip::Slip;
 use games::side::Side;
-use hashed_store::table::HashTable;
 use memory::memory::Memory;
-use ordered_store::ordered::OrderedList;
 use reading::read::read;
 use stores::store::Store;
-use valuing::remembering::value::value;
+use valuing::value::value_with;
+
+// How many rows the stores have room for: one fewer than would be wanted.
+const ROWS: usize = 4;
 
 // What is put on the Left and on the Right, by the numbers of nodes: 0 is 0, 1 is 1, 2 is 2 and 3 is *.
 const FORMS: [(&'static str, &'static [u16], &'static [u16]); 10] = [
@@ -29,40 +32,31 @@ const FORMS: [(&'static str, &'static [u16], &'static [u16]); 10] = [
     ("{|} again", &[], &[]),
 ];
 
+struct Drafts;
+
+impl Demo for Drafts {
+    fn over<S: Shown>(&self, rt: &HostRuntime) -> anyhow::Result<()> {
+        println!(rt; "over {} of {ROWS} rows", S::NAME)?;
+        let mut dictionary = begin::<S>(rt.alloc(), ROWS)?;
+        let mut draft = Draft::new();
+        for (name, left, right) in FORMS {
+            abandoned(rt, &mut draft, left)?;
+            sealed(rt, &mut dictionary, &mut draft, name, left, right)?;
+        }
+        corner(rt, &mut dictionary)
+    }
+}
+
 fn main(rt: HostRuntime) -> anyhow::Result<()> {
-    run(&rt)
-}
-
-fn run(rt: &HostRuntime) -> anyhow::Result<()> {
-    if let Ok(store) = OrderedList::new(rt.alloc(), 4) {
-        println!(rt; "over an ordered list of 4 rows")?;
-        show(rt, store)?;
-    }
-    if let Ok(store) = HashTable::new(rt.alloc(), 4) {
-        println!(rt; "over a hash-consed table of 4 rows")?;
-        show(rt, store)?;
-    }
-    Ok(())
-}
-
-fn show<S: Store + Drop>(rt: &HostRuntime, store: S) -> anyhow::Result<()> {
-    let mut dictionary = Dictionary::begin(rt.alloc(), store)?;
-    let mut draft = Draft::new();
-    for (name, left, right) in FORMS {
-        abandoned(rt, &mut draft, left)?;
-        sealed(rt, &mut dictionary, &mut draft, name, left, right)?;
-    }
-    corner(rt, &mut dictionary)
+    over_both(&rt, &Drafts)
 }
 
 // Three cells in a corner: either side has one move, which leaves no other, so its game is {0|0}.
 fn corner<S: Store>(rt: &HostRuntime, dictionary: &mut Dictionary<S>) -> anyhow::Result<()> {
-    let mut memory = Memory::new(rt.alloc());
-    if let Ok(board) = Board::new(2, 2) {
-        match value(dictionary, &mut memory, &board, 1) {
-            Ok(node) => print(rt, dictionary, "#./..", node)?,
-            Err(fault) => println!(rt; "#./..: refused with {}", fault.number())?,
-        }
+    let board = Board::new(2, 2).unwrap();
+    match value_with(dictionary, &mut Memory::new(rt.alloc()), &board, 1) {
+        Ok(node) => print(rt, dictionary, "#./..", node)?,
+        Err(fault) => println!(rt; "#./..: refused with {}", fault.number())?,
     }
     Ok(())
 }
@@ -120,14 +114,11 @@ fn print<S: Store>(
     name: &str,
     node: u16,
 ) -> anyhow::Result<()> {
-    let mut buffer = [0; 16];
-    match dictionary.print(node, &mut buffer) {
-        Ok(length) => {
-            if let Some(text) = buffer.get(0..length) {
-                println!(rt; "{name}: node {node}, {}", std::str::from_utf8(text)?)?;
-                if let Ok(again) = read(dictionary, text) {
-                    println!(rt; "  which is read as node {again}")?;
-                }
+    match text(dictionary, node, &mut [0; 16]) {
+        Ok(text) => {
+            println!(rt; "{name}: node {node}, {}", std::str::from_utf8(text)?)?;
+            if let Ok(again) = read(dictionary, text) {
+                println!(rt; "  which is read as node {again}")?;
             }
         }
         Err(fault) => println!(rt; "{name}: node {node}, refused with {}", fault.number())?,

@@ -7,68 +7,48 @@ use rulesets::ruleset::Ruleset;
 use toads::text::{Position, TextFault};
 
 fn main(rt: HostRuntime) -> anyhow::Result<()> {
-    run(&rt)
-}
-
-fn run(rt: &HostRuntime) -> anyhow::Result<()> {
     for line in rt.lines(rt.alloc()) {
-        let line = line?;
-        answer(rt, line.as_str())?;
+        answer(&rt, line?.as_str())?;
     }
     Ok(())
 }
 
 // A question is `L` or `R` for the side to move, a space, and the strip.
 fn answer(rt: &HostRuntime, line: &str) -> anyhow::Result<()> {
-    let Some((side, strip)) = line.split_once(' ') else {
-        println!(rt; "no question: {line}")?;
-        return Ok(());
-    };
-    match side {
-        "L" => tell(rt, Side::Left, "Left", strip),
-        "R" => tell(rt, Side::Right, "Right", strip),
-        _ => {
-            println!(rt; "no side: {side}")?;
-            Ok(())
-        }
+    match line.split_once(' ') {
+        Some(("L", strip)) => tell(rt, Side::Left, strip)?,
+        Some(("R", strip)) => tell(rt, Side::Right, strip)?,
+        Some((side, _)) => println!(rt; "no side: {side}")?,
+        None => println!(rt; "no question: {line}")?,
     }
+    Ok(())
 }
 
-fn tell(rt: &HostRuntime, side: Side, name: &str, strip: &str) -> anyhow::Result<()> {
-    match Position::read(strip.as_bytes()) {
-        Ok(position) => tell_moves(rt, side, name, strip, &position),
-        Err(fault) => {
-            let number = fault.number();
-            match fault {
-                TextFault::Character(place) => {
-                    println!(rt; "{strip}: fault {number}, no cell at {place}")?;
-                }
-                TextFault::Size => println!(rt; "{strip}: fault {number}, not 1 to 12 cells")?,
-            }
-            Ok(())
+fn tell(rt: &HostRuntime, side: Side, text: &str) -> anyhow::Result<()> {
+    match Position::read(text.as_bytes()) {
+        Ok(position) => tell_moves(rt, side, text, &position)?,
+        Err(fault @ TextFault::Character(place)) => {
+            println!(rt; "{text}: fault {}, no cell at {place}", fault.number())?;
+        }
+        Err(fault @ TextFault::Size) => {
+            println!(rt; "{text}: fault {}, not 1 to 12 cells", fault.number())?;
         }
     }
+    Ok(())
 }
 
-fn tell_moves(
-    rt: &HostRuntime,
-    side: Side,
-    name: &str,
-    strip: &str,
-    position: &Position,
-) -> anyhow::Result<()> {
-    let board = &position.strip;
-    let code = position.code;
-    let letter = outcome_of(board, code).letter();
-    let moves = board.count(side, code);
-    let winning = winning_moves(rt.alloc(), board, side, code)?;
-    print!(rt; "{strip}: outcome {letter}; {name} moves first, winning with")?;
+// The line is printed once all of it is known.
+fn tell_moves(rt: &HostRuntime, side: Side, text: &str, position: &Position) -> anyhow::Result<()> {
+    let Position { strip, code } = *position;
+    let outcome = outcome_of(&strip, code);
+    let winning = winning_moves(rt.alloc(), &strip, side, code)?;
+    print!(rt; "{text}: outcome {outcome}; {side:?} moves first, winning with")?;
     if winning.is_empty() {
         print!(rt; " none")?;
     }
-    for index in winning.iter() {
+    for index in &winning {
         print!(rt; " {index}")?;
     }
-    println!(rt; " of {moves} moves")?;
+    println!(rt; " of {} moves", strip.count(side, code))?;
     Ok(())
 }

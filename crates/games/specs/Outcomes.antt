@@ -1,6 +1,6 @@
 -- The outcome of a game, and how two games compare.
 -- Assumes nothing.
-use Rattle.std.specs.Prelude.{ℕ, Bool, true, false}
+use Rattle.std.specs.Prelude.{ℕ, Bool, true, false, List, codes}
 use Rattle.games.specs.declared.outcome.Comparison.{Comparison}
 use Rattle.games.specs.declared.outcome.Comparison.TheVariants.{Less, Greater, Equal, Confused}
 use Rattle.games.specs.declared.outcome.Outcome.{Outcome}
@@ -34,3 +34,10 @@ letter Zero = 80
 letter Fuzzy = 78
 letter Positive = 76
 letter Negative = 82
+
+-- the sign of a comparison, by the codes of its characters: <, >, = or ||
+abbrev pub sign : Comparison → List ℕ
+sign Less = codes "<"
+sign Greater = codes ">"
+sign Equal = codes "="
+sign Confused = codes "||"

@@ -1,13 +1,15 @@
 // How two games compare, and the outcome of one.
-ghost use Rattle.std.specs.Prelude.{◌≡◌, not};
+ghost use Rattle.std.specs.Prelude.{◌≡◌, not, Some, [], ◌∷◌};
 ghost use Rattle.games.specs.Form.{Form, 𝟎};
 ghost use Rattle.games.specs.Laws.{PlayTellsTheOrder};
-ghost use Rattle.games.specs.Outcomes.{against_zero, compare, comparison, letter, outcome};
+ghost use Rattle.games.specs.Outcomes.{against_zero, compare, comparison, letter, outcome, sign};
 ghost use Rattle.games.specs.Play.{wins};
 ghost use Rattle.games.specs.declared.side.Side.TheVariants.{Left, Right};
 
+use std::fmt;
+
 // How G and H compare: < is `Less`, > is `Greater`, = is `Equal`, and || is `Confused`.
-#[derive(Clone, Copy)]
+#[derive(Clone, Copy, Debug, PartialEq, Eq)]
 pub enum Comparison {
     Less,
     Greater,
@@ -16,7 +18,7 @@ pub enum Comparison {
 }
 
 // The four outcome classes: P, N, L and R.
-#[derive(Clone, Copy)]
+#[derive(Clone, Copy, Debug, PartialEq, Eq)]
 pub enum Outcome {
     Zero,
     Fuzzy,
@@ -38,6 +40,32 @@ impl Comparison {
             (true, true) => Comparison::Confused,
         }
     }
+
+    // The sign by which a comparison is written.
+    pub fn sign(self) -> &'static str
+        ensures { result.now ≡ sign self }
+    {
+        match self {
+            Comparison::Less => "<",
+            Comparison::Greater => ">",
+            Comparison::Equal => "=",
+            Comparison::Confused => "||",
+        }
+    }
+}
+
+// The outcome of a game that compares so with 0.
+impl From<Comparison> for Outcome {
+    ghost from_gives = { λ comparison r. r ≡ against_zero comparison };
+
+    fn from(value: Comparison) -> Outcome {
+        match value {
+            Comparison::Equal => Outcome::Zero,
+            Comparison::Confused => Outcome::Fuzzy,
+            Comparison::Greater => Outcome::Positive,
+            Comparison::Less => Outcome::Negative,
+        }
+    }
 }
 
 impl Outcome {
@@ -46,12 +74,7 @@ impl Outcome {
         ensures value { result ≡ against_zero (comparison (not right_can_win) (not left_can_win)) }
         ensures classes { (g : Form) → wins Left g 𝟎 ≡ left_can_win → wins Right g 𝟎 ≡ right_can_win → result ≡ outcome g }
     {
-        match Comparison::by_play(left_can_win, right_can_win) {
-            Comparison::Equal => Outcome::Zero,
-            Comparison::Confused => Outcome::Fuzzy,
-            Comparison::Greater => Outcome::Positive,
-            Comparison::Less => Outcome::Negative,
-        }
+        Outcome::from(Comparison::by_play(left_can_win, right_can_win))
     }
 
     // The letter by which an outcome is written.
@@ -64,5 +87,21 @@ impl Outcome {
             Outcome::Positive => 'L',
             Outcome::Negative => 'R',
         }
+    }
+}
+
+impl fmt::Display for Comparison {
+    ghost output = { λ comparison. Some (sign comparison) };
+
+    fn fmt<W: fmt::Write>(&self, f: &mut fmt::Formatter<W>) -> fmt::Result {
+        f.write_str(self.sign())
+    }
+}
+
+impl fmt::Display for Outcome {
+    ghost output = { λ outcome. Some (letter outcome ∷ []) };
+
+    fn fmt<W: fmt::Write>(&self, f: &mut fmt::Formatter<W>) -> fmt::Result {
+        f.write_char(self.letter())
     }
 }

@@ -1,6 +1,7 @@
 -- Cutting an edge: the flood without it, and then on along it.
 use Rattle.std.proofs.Common.{◌≡◌, ℕ, ◌*◌, ◌%◌, ◌^◌, ◌<◌, Bool, true, false, cond, not, ◌&&◌, eqb, ltb, ◌≢◌, List, length, get_or, Some, None, sym, refl, ap, ◌∙◌, inl, inr, arith}
 use lib.Bits.{bit_or, bit_xor}
+use Rattle.std.specs.Bool.{then_some}
 use Rattle.std.proofs.lemmas.Nat.{or_lt, xor_lt, pow_below}
 use Rattle.std.proofs.lemmas.Option.{slice_get-get_or}
 use Rattle.std.proofs.lemmas.Bool.{cases_Bool, cases_eq, cases_lt, both_ways, and_parts, and_from, or_cases, or_parts, eqb-true, eq-eqb, ne_eqb, lt-ltb, le-ltb, not_from_false}
@@ -112,8 +113,9 @@ module _ (p : Picture) (n k : ℕ) (set : bit n k ≡ true) (fits : n < 2 ^ 64) 
       when : legal (edges_of p) n ≡ eqb dry' 0
       when = legal_is (edges_of p) n k (flag_of k) one set small wet dry f wet' dry' g
 
-      pub cut_made : dry' ≡ 0 → Some (bit_xor (bit_xor n (flag_of k)) dry) ≡ cond (legal (edges_of p) n) (Some (cut (edges_of p) n k)) None
-      cut_made e = rw (when, eq-eqb dry' 0 e) (ap Some (cut_is (edges_of p) n k (flag_of k) one set small wet dry f))
-
-      pub cut_refused : dry' ≢ 0 → None ≡ cond (legal (edges_of p) n) (Some (cut (edges_of p) n k)) None
-      cut_refused e = rw (when, ne_eqb dry' 0 e)
+      pub cut_told : then_some (eqb dry' 0) (bit_xor (bit_xor n (flag_of k)) dry) ≡ cond (legal (edges_of p) n) (Some (cut (edges_of p) n k)) None
+      cut_told = rw (when, cut_is (edges_of p) n k (flag_of k) one set small wet dry f) (either (eqb dry' 0) _)
+        where
+          either : (b : Bool) (m : ℕ) → then_some b m ≡ cond b (Some m) None
+          either true m = refl
+          either false m = refl

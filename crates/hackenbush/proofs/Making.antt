@@ -1,32 +1,17 @@
--- The loops that read a list of edges: the vertices, and the set of a colour's edges.
-use Rattle.std.proofs.Common.{◌≡◌, ℕ, ◌+◌, ◌<◌, ◌≤◌, Bool, true, false, ◌&&◌, ◌||◌, eqb, ltb, ◌⊎◌, List, length, get_or, drop, sym, refl, ap, ◌∙◌, inl, inr, arith}
+-- The loops that read a list of edges: the vertices that they touch, and the set of a colour's edges.
+use Rattle.std.proofs.Common.{◌≡◌, ℕ, ◌+◌, ◌<◌, ◌≤◌, Bool, true, false, ◌&&◌, ◌||◌, eqb, ltb, List, length, get_or, drop, sym, refl, ap, ◌∙◌, inl, inr, arith}
 use lib.Bits.{bit_or}
 use Rattle.std.proofs.lemmas.List.{at_drop_more, at_drop_all}
 use Rattle.std.proofs.lemmas.Option.{slice_get-get_or, slice_get_past}
-use Rattle.std.proofs.lemmas.Bool.{cases_eq, cases_lt, and_left, and_right, eq-eqb, ne_eqb, lt-ltb, le-ltb}
+use Rattle.std.proofs.lemmas.Bool.{cases_eq, cases_lt, and_right, eq-eqb, ne_eqb, lt-ltb, le-ltb}
 use Rattle.games.specs.declared.side.Side.{Side}
 use Rattle.bits.specs.Bits.{bit}
 use Rattle.bits.proofs.Words.{bit_or_lem, bit_one_shl}
 use Rattle.hackenbush.specs.declared.edge.Edge.{Edge}
 use Rattle.hackenbush.specs.Joined.{holds}
-use Rattle.hackenbush.specs.Hackenbush.{near, touched, cuts, painted}
+use Rattle.hackenbush.specs.Hackenbush.{touched, cuts, painted}
 use Rattle.hackenbush.specs.Reading.{blank}
 use Rattle.hackenbush.proofs.Cutting.{flag_of}
-
-module _ (es : List Edge) (i : ℕ) (so_far : near (drop i es) ≡ near es) where
-  pub near_more : i < length es → (get_or es i blank).from ≤ 15 → (get_or es i blank).to ≤ 15 → near (drop (i + 1) es) ≡ near es
-  near_more h a b =
-      let step : near (drop i es) ≡ ((ltb (get_or es i blank).from 16 && ltb (get_or es i blank).to 16) && near (drop (i + 1) es)) = at_drop_more near es i blank h in
-      sym (rw (lt-ltb (get_or es i blank).from 16 (omega arith), lt-ltb (get_or es i blank).to 16 (omega arith)) at step) ∙ so_far
-
-  pub near_not : i < length es → (15 < (get_or es i blank).from) ⊎ (15 < (get_or es i blank).to) → false ≡ near es
-  near_not h far =
-      let step : near (drop i es) ≡ ((ltb (get_or es i blank).from 16 && ltb (get_or es i blank).to 16) && near (drop (i + 1) es)) = at_drop_more near es i blank h in
-      let no : (ltb (get_or es i blank).from 16 && ltb (get_or es i blank).to 16) ≡ false = elim far [ inl a ↦ and_left _ _ (le-ltb (get_or es i blank).from 16 a) | inr a ↦ and_right _ _ (le-ltb (get_or es i blank).to 16 a) ] in
-      sym (and_left _ _ no) ∙ sym step ∙ so_far
-
-  pub near_all : length es ≤ i → true ≡ near es
-  near_all h = sym (at_drop_all near es i h) ∙ so_far
 
 -- a set of the numbers that pass q, grown up to i
 module _ (q : ℕ → Bool) (set i : ℕ) (so_far : (j : ℕ) → bit set j ≡ (ltb j i && q j)) where
@@ -66,12 +51,11 @@ set_all s es set i so_far h j = so_far j ∙ elim (cases_lt j i) [
 
 -- the ends of the edges up to i are in the set
 module _ (es : List Edge) (set i : ℕ) (so_far : (v : ℕ) → (bit set v || touched (drop i es) v) ≡ touched es v) (h : i < length es) where
-  pub span_more : (get_or es i blank).from < 64 → (get_or es i blank).to < 64 → (v : ℕ)
-      → (bit (bit_or set (bit_or (flag_of (get_or es i blank).from) (flag_of (get_or es i blank).to))) v || touched (drop (i + 1) es) v) ≡ touched es v
-  span_more a b v =
+  pub span_more : (ends : ℕ) → ((v : ℕ) → bit ends v ≡ (eqb v (get_or es i blank).from || eqb v (get_or es i blank).to)) → (v : ℕ)
+      → (bit (bit_or set ends) v || touched (drop (i + 1) es) v) ≡ touched es v
+  span_more ends are v =
       let step : touched (drop i es) v ≡ ((eqb v (get_or es i blank).from || eqb v (get_or es i blank).to) || touched (drop (i + 1) es) v) = at_drop_more (λ xs. touched xs v) es i blank h in
-      rw (bit_or_lem set (bit_or (flag_of (get_or es i blank).from) (flag_of (get_or es i blank).to)) v, bit_or_lem (flag_of (get_or es i blank).from) (flag_of (get_or es i blank).to) v, bit_one_shl (get_or es i blank).from v a, bit_one_shl (get_or es i blank).to v b)
-      (assoc (bit set v) _ _ ∙ ap (λ t. bit set v || t) (sym step) ∙ so_far v)
+      rw (bit_or_lem set ends v, are v) (assoc (bit set v) _ _ ∙ ap (λ t. bit set v || t) (sym step) ∙ so_far v)
     where
       assoc : (x y z : Bool) → ((x || y) || z) ≡ (x || (y || z))
       assoc true y z = refl

@@ -1,15 +1,15 @@
 -- The answers of the ruleset, from words of 64 bits to the edges that there are.
-use Rattle.std.proofs.Common.{◌≡◌, ℕ, zero, suc, ◌^◌, ◌<◌, ◌≤◌, true, false, cond, ◌&&◌, eqb, ltb, List, [], ◌∷◌, length, Some, None, Option, sym, refl, ap, ◌∙◌, inl, inr, arith}
+use Rattle.std.proofs.Common.{◌≡◌, ℕ, ◌^◌, ◌<◌, ◌≤◌, true, false, cond, ◌&&◌, eqb, ltb, List, length, Some, None, Option, sym, refl, ap, ◌∙◌, inl, inr, arith}
 use lib.Bits.{bit_and}
-use Rattle.std.specs.List.{slice_get, AllByRecursion}
+use Rattle.std.specs.List.{slice_get}
 use Rattle.std.specs.Option.{option_map}
 use Rattle.std.proofs.lemmas.List.{length-map}
-use Rattle.std.proofs.lemmas.Option.{slice_get_past}
+use Rattle.std.proofs.lemmas.Option.{slice_get-map, slice_get_past}
 use Rattle.std.proofs.lemmas.Bool.{cases_Bool, and_parts, and_right, cond-true, eqb-true, lt-ltb}
 use Rattle.games.specs.declared.side.Side.{Side}
 use Rattle.bits.specs.Bits.{bit, places}
 use Rattle.bits.proofs.Words.{bit_and_lem, bit_past}
-use Rattle.bits.proofs.Places.{all_places, places_cong, places_more, nth_map}
+use Rattle.bits.proofs.Places.{all_places, nth_all, places_cong, places_more}
 use Rattle.hackenbush.specs.declared.edge.Edge.{Edge}
 use Rattle.hackenbush.specs.Hackenbush.{painted, fall, legal, cut, hackenbush}
 use Rattle.hackenbush.specs.Codes.{fall_below}
@@ -23,14 +23,9 @@ legal_test es n = elim (cases_Bool (eqb (fall es (bit n)) n)) [
   | inr e ↦ rw e (sym (and_right (ltb n (2 ^ length es)) false refl))
 ]
 
-all_nth : (P : ℕ → Type 0) (xs : List ℕ) (i k : ℕ) → AllByRecursion P xs → Some k ≡ slice_get xs i → P k
-all_nth P [] i k a e = absurd (let z : ◌≡◌ {A = ℕ} 0 1 = cc in omega arith)
-all_nth P (x ∷ xs) zero k a e = let q : k ≡ x = cc in rw q a.0
-all_nth P (x ∷ xs) (suc i) k a e = all_nth P xs i k a.1 e
-
 -- a bit that was found is set
 pub nth_set : (n mask i k : ℕ) → Some k ≡ slice_get (places 64 (bit (bit_and n mask))) i → bit n k ≡ true
-nth_set n mask i k e = (and_parts (bit n k) (bit mask k) (sym (bit_and_lem n mask k) ∙ (all_nth _ _ i k (all_places 64 (bit (bit_and n mask))) e).1)).0
+nth_set n mask i k e = (and_parts (bit n k) (bit mask k) (sym (bit_and_lem n mask k) ∙ (nth_all _ _ i k (all_places 64 (bit (bit_and n mask))) (sym e)).1)).0
 
 module _ (es : List Edge) (few : length es ≤ 64) (n : ℕ) where
   pub rank_is : legal es n ≡ true → length (places 64 (bit n)) ≡ (hackenbush es).rank n
@@ -47,7 +42,7 @@ module _ (es : List Edge) (few : length es ≤ 64) (n : ℕ) where
     count_moves l = rw (l, length-map (places (length es) (λ i. bit n i && painted s es i)) (cut es n)) (ap length cuttable)
 
     nth_moves : legal es n ≡ true → (i : ℕ) → slice_get ((hackenbush es).moves s n) i ≡ option_map (cut es n) (slice_get (places 64 (bit (bit_and n mask))) i)
-    nth_moves l i = rw (l, cuttable) (nth_map (cut es n) (places (length es) (λ j. bit n j && painted s es j)) i)
+    nth_moves l i = rw (l, cuttable) (slice_get-map (cut es n) (places (length es) (λ j. bit n j && painted s es j)) i)
 
     pub successor_found : (i k : ℕ) (r : Option ℕ) → Some k ≡ slice_get (places 64 (bit (bit_and n mask))) i → r ≡ cond (legal es n) (Some (cut es n k)) None → r ≡ slice_get ((hackenbush es).moves s n) i
     successor_found i k r e c = c ∙ elim (cases_Bool (legal es n)) [

@@ -1,7 +1,7 @@
 -- The rules of Hackenbush: the edges of a picture, numbered from 0; bit i of a code is 1 while edge i stands.
 -- Assumes nothing.
-use Rattle.std.specs.Prelude.{ℕ, zero, suc, ◌+◌, ◌^◌, Bool, true, false, cond, not, ◌&&◌, ◌||◌, List, [], ◌∷◌, map, length, ◌==◌, nat_le, nat_lt}
-use Rattle.std.specs.List.{slice_get}
+use Rattle.std.specs.Prelude.{ℕ, zero, suc, ◌+◌, ◌^◌, Bool, true, false, cond, not, ◌&&◌, ◌||◌, List, [], map, length, ◌==◌, nat_le, nat_lt}
+use Rattle.std.specs.List.{list_all, list_any, slice_get}
 use Rattle.bits.specs.Bits.{bit, places}
 use Rattle.games.specs.declared.side.Side.{Side}
 use Rattle.games.specs.declared.side.Side.TheVariants.{Left, Right}
@@ -11,10 +11,13 @@ use Rattle.hackenbush.specs.declared.edge.Colour.{Colour}
 use Rattle.hackenbush.specs.declared.edge.Colour.TheVariants.{Left as L, Right as R, Both as B}
 use Rattle.hackenbush.specs.Joined.{joined, holds}
 
+-- both ends of the edge are from 0 to 15
+abbrev pub near_edge : Edge → Bool
+near_edge e = nat_lt e.from 16 && nat_lt e.to 16
+
 -- every vertex is from 0 to 15
 abbrev pub near : List Edge → Bool
-near [] = true
-near (e ∷ es) = (nat_lt e.from 16 && nat_lt e.to 16) && near es
+near es = list_all near_edge es
 
 -- the size of a picture: 1 to 24 edges between vertices 0 to 15
 abbrev pub fits : List Edge → Bool
@@ -22,8 +25,7 @@ fits es = (nat_le 1 (length es) && nat_le (length es) 24) && near es
 
 -- v is an end of an edge
 abbrev pub touched : List Edge → ℕ → Bool
-touched [] v = false
-touched (e ∷ es) v = (v == e.from || v == e.to) || touched es v
+touched es v = list_any (λ e. v == e.from || v == e.to) es
 
 -- the side may cut an edge of this colour
 abbrev pub cuts : Side → Colour → Bool

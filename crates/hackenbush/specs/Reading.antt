@@ -1,10 +1,10 @@
 -- Reading the edges of a picture.
-use Rattle.std.specs.Prelude.{◌≡◌, ℕ, zero, suc, ◌-◌, ◌*◌, ◌%◌, ◌^◌, ◌<◌, ◌≤◌, Bool, true, false, ◌&&◌, List, [], ◌∷◌, length, get_or, Some, nat_le, nat_lt, slice_index_or, refl}
+use Rattle.std.specs.Prelude.{◌≡◌, ℕ, zero, suc, ◌-◌, ◌*◌, ◌%◌, ◌^◌, ◌<◌, ◌≤◌, Bool, true, false, ◌&&◌, List, [], ◌∷◌, length, Some, nat_le, nat_lt, slice_index_or, refl}
 use Rattle.std.proofs.Common.{sym, ◌∙◌, ap, arith}
 use Rattle.std.specs.Int.Bits.{bit_and}
 use Rattle.std.specs.List.{slice_get}
 use Rattle.std.proofs.lemmas.Nat.{and_le_r, pow_pos}
-use Rattle.std.proofs.lemmas.List.{length-take-le, get_or-take}
+use Rattle.std.proofs.lemmas.List.{length-take-le}
 use Rattle.std.proofs.lemmas.Option.{slice_get-get_or}
 use Rattle.std.proofs.lemmas.Bool.{and_parts, ltb-true, leb-true}
 use Rattle.bits.specs.Bits.{bit}
@@ -12,20 +12,20 @@ use Rattle.bits.proofs.Words.{bit_and_lem, bit_mask, one_shl_64}
 use Rattle.hackenbush.specs.declared.edge.Edge.{Edge}
 use Rattle.hackenbush.specs.declared.edge.Colour.TheVariants.{Left as L}
 use Rattle.hackenbush.specs.declared.picture.Picture.{Picture}
-use Rattle.hackenbush.specs.Hackenbush.{near, fits}
+use Rattle.hackenbush.specs.Hackenbush.{near_edge, near, fits}
 use Rattle.hackenbush.specs.Pictures.{edges_of}
 
 -- what a read past the end would give
 abbrev pub blank : Edge
 blank = record { from = 0; to = 0; colour = L }
 
-pub near_at : (es : List Edge) (i : ℕ) (e : Edge) → near es ≡ true → slice_get es i ≡ Some e → (e.from < 16) × (e.to < 16)
+pub edge_low : (e : Edge) → near_edge e ≡ true → (e.from < 16) × (e.to < 16)
+edge_low e n = let a = and_parts (nat_lt e.from 16) (nat_lt e.to 16) n in (ltb-true e.from 16 a.0, ltb-true e.to 16 a.1)
+
+pub near_at : (es : List Edge) (i : ℕ) (e : Edge) → near es ≡ true → slice_get es i ≡ Some e → near_edge e ≡ true
 near_at [] i e n at = absurd (let z : ◌≡◌ {A = ℕ} 0 1 = cc in omega arith)
-near_at (x ∷ es) zero e n at =
-    let a = and_parts (nat_lt x.from 16) (nat_lt x.to 16) (and_parts _ (near es) n).0 in
-    let q : x ≡ e = cc in
-    rw (← q) (ltb-true x.from 16 a.0, ltb-true x.to 16 a.1)
-near_at (x ∷ es) (suc i) e n at = near_at es i e (and_parts (nat_lt x.from 16 && nat_lt x.to 16) (near es) n).1 at
+near_at (x ∷ es) zero e n at = let q : x ≡ e = cc in rw (← q) (and_parts (near_edge x) (near es) n).0
+near_at (x ∷ es) (suc i) e n at = near_at es i e (and_parts (near_edge x) (near es) n).1 at
 
 pub fits_length : (es : List Edge) → fits es ≡ true → (1 ≤ length es) × (length es ≤ 24)
 fits_length es f =
@@ -39,11 +39,11 @@ module _ (p : Picture) where
   pub few : length (edges_of p) ≤ 64
   few = omega (arith, count_is, p.within)
 
-  pub edge_at : (i : ℕ) → i < p.count → slice_get (edges_of p) i ≡ Some (slice_index_or p.edges i blank)
-  edge_at i h = slice_get-get_or (edges_of p) i blank (omega (arith, count_is)) ∙ ap Some (get_or-take p.count p.edges i blank h)
+  pub edge_at : (i : ℕ) → i < p.count → slice_get (edges_of p) i ≡ Some (slice_index_or (edges_of p) i blank)
+  edge_at i h = slice_get-get_or (edges_of p) i blank (omega (arith, count_is))
 
-  pub ends_near : (i : ℕ) → i < p.count → ((get_or p.edges i blank).from < 16) × ((get_or p.edges i blank).to < 16)
-  ends_near i h = near_at (edges_of p) i (slice_index_or p.edges i blank) (and_parts (nat_le 1 (length (edges_of p)) && nat_le (length (edges_of p)) 24) _ p.sized).1 (edge_at i h)
+  pub ends_near : (i : ℕ) → i < p.count → near_edge (slice_index_or (edges_of p) i blank) ≡ true
+  ends_near i h = near_at (edges_of p) i (slice_index_or (edges_of p) i blank) (and_parts (nat_le 1 (length (edges_of p)) && nat_le (length (edges_of p)) 24) _ p.sized).1 (edge_at i h)
 
   -- the code cut down to the edges that there are
   low : (1 * 2 ^ p.count) % 18446744073709551616 ≡ 2 ^ p.count

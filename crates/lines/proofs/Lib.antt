@@ -6,10 +6,7 @@ pub mod Depth
 pub mod Standing
 pub mod Faults
 pub mod Going
-pub mod Letters
+pub mod Passing
 pub mod Underway
-pub mod Items
 pub mod Nesting
-pub mod TextParts
-pub mod Joining
 pub mod Wholes

@@ -1,36 +1,71 @@
--- The reader inside items or a text, between their start and the cursor.
+-- The reader on a walk, between its start and the cursor.
 -- Assumes nothing.
-use Rattle.std.proofs.Common.{◌≡◌, ℕ, ◌+◌, ◌-◌, ◌<◌, ◌≤◌, List, [], ◌∷◌, ◌++◌, length, get_or, take, drop, refl, ap, ◌∙◌, arith}
-use mathlib.Core.Option.{some}
-use Rattle.std.proofs.lemmas.List.{take_at}
+use Rattle.std.proofs.Common.{◌≡◌, ℕ, ◌+◌, ◌<◌, ◌≤◌, List, [], ◌∷◌, ◌++◌, length, get_or, take, drop, sym, refl, ap, ◌∙◌, subst, append_assoc, arith}
+use mathlib.Core.Option.{none, some}
+use Rattle.std.proofs.lemmas.List.{take_at, length-append, length-drop}
+use Rattle.calls.specs.declared.fault.TextFault.{TextFault}
+use Rattle.calls.specs.declared.fault.TextFault.TheVariants.{WrongByte, EarlyEnd, TooDeep}
 use Rattle.lines.specs.Machine.{Symbol, next, run, step, depth}
-use Rattle.lines.specs.Reading.{Goes, Fails}
-use Rattle.lines.specs.declared.fault.LineFault.{LineFault}
+use Rattle.lines.specs.Reading.{Passed, Failed, Walked}
+use Rattle.lines.specs.Walks.{Refused, Ongoing}
+use Rattle.lines.specs.Questions.{DescribesPart}
+use Rattle.lines.specs.declared.question.Part.{Part}
+use Rattle.lines.specs.declared.reader.Reader.{Reader}
 use Rattle.lines.proofs.Machine.{run_++}
-use Rattle.lines.proofs.Going.{goes_nil, goes_one, goes_++, fails_after}
+use Rattle.lines.proofs.Passing.{passed_nil, passed_++, passed_one, failed_after, failed_wrong, failed_deep, failed_early}
 
-pub record Underway (t : List ℕ) (i j : ℕ) (s s' : List Symbol) : Type 0 where
+pub record Underway (b m : Reader) (s s' : List Symbol) : Type 0 where
   pub passed : List ℕ
-  pub went : Goes t i j s s' passed
+  pub went : Passed b m s s' passed
   pub ran : run (some s) passed ≡ some s'
 
-pub underway_start : (t : List ℕ) (i : ℕ) (s : List Symbol) → Underway t i i s s
-underway_start t i s = record { passed = []; went = goes_nil t i s; ran = refl }
+pub underway_start : (r : Reader) (s : List Symbol) → Underway r r s s
+underway_start r s = record { passed = []; went = passed_nil r s; ran = refl }
 
-module _ {t : List ℕ} {i j : ℕ} {s s' : List Symbol} (u : Underway t i j s s') where
-  pub underway_order : i ≤ j
-  underway_order = let e = u.went.spans.ends in omega arith
+-- the next byte, from the state m to the state a
+module _ {b m : Reader} {s s' : List Symbol} (u : Underway b m s s') (a : Reader) (same : a.line.now ≡ m.line.now) where
+  pub underway_early : (f : TextFault) → Ongoing s' → length m.line.now ≤ m.at → f ≡ EarlyEnd m.at → Failed b a s f
+  underway_early f o l e = failed_after u.went (subst (λ z. Failed m a z f) (sym o.is) (failed_early m a o.first o.under f same l e))
 
-  abbrev pub underway_more : (s'' : List Symbol) → j < length t → next s' (get_or t j 0) ≡ some s'' → depth s'' ≤ 96 → Underway t i (j + 1) s s''
-  underway_more s'' l e d = record {
-    passed = u.passed ++ (get_or t j 0 ∷ []);
-    went = goes_++ u.went (goes_one t j s' s'' l e d);
-    ran = run_++ (some s) u.passed (get_or t j 0 ∷ []) ∙ (ap (λ q. step q (get_or t j 0)) u.ran ∙ e);
-  }
+  module _ (byte : ℕ) (within : m.at < length m.line.now) (here : byte ≡ get_or m.line.now m.at 0) where
+    pub underway_refused : (f : TextFault) → Ongoing s' → Refused s' byte m.at f → Failed b a s f
+    underway_refused (WrongByte i) o (e, n) =
+        let k : next (o.first ∷ o.under) byte ≡ none = ap (λ z. next z byte) (sym o.is) ∙ n in
+        subst (λ z. Failed b a s (WrongByte z)) (sym e) (failed_after u.went (subst (λ z. Failed m a z (WrongByte m.at)) (sym o.is) (failed_wrong m a byte within here o.first o.under same k)))
+    underway_refused (EarlyEnd i) o e = absurd e
+    underway_refused (TooDeep i) o (e, (s'', n, d)) =
+        subst (λ z. Failed b a s (TooDeep z)) (sym e) (failed_after u.went (failed_deep m a byte within here s' s'' same n d))
 
-  pub underway_fails : (f : LineFault) → Fails t j s' f → Fails t i s f
-  underway_fails f h = fails_after u.went h
+    abbrev pub underway_more : (s'' : List Symbol) → a.at ≡ m.at + 1 → next s' byte ≡ some s'' → depth s'' ≤ 96 → Underway b a s s''
+    underway_more s'' on e d = record {
+      passed = u.passed ++ (byte ∷ []);
+      went = passed_++ u.went (passed_one m a byte within here s' s'' same on e d);
+      ran = run_++ (some s) u.passed (byte ∷ []) ∙ (ap (λ q. step q byte) u.ran ∙ e);
+    }
 
-  -- the bytes that are handed out
-  pub underway_part : take (j - i) (drop i t) ≡ u.passed
-  underway_part = let e = u.went.spans.ends in ap (take (j - i)) u.went.spans.bytes ∙ take_at u.passed (drop j t) (j - i) (omega arith)
+    pub underway_end : (last : ℕ) → a.at ≡ m.at + 1 → next s' byte ≡ some [] → byte ≡ last → (w : List ℕ) × Passed b a s [] w × Walked s last w
+    underway_end last on e closes =
+        let v = underway_more [] on e (omega arith) in
+        (v.passed, v.went, (u.passed, ap (λ z. u.passed ++ (z ∷ [])) closes, v.ran))
+
+-- what has been passed, as a part of the line
+module _ {b a : Reader} {s s' : List Symbol} (w : List ℕ) (p : Passed b a s s' w) where
+  pub passed_order : a.at ≡ b.at + length w
+  passed_order = p.goes.spans.ends
+
+  pub passed_within : 1 ≤ length w → a.at ≤ length b.line.now
+  passed_within l =
+      let e = ap length p.goes.spans.bytes in
+      let f = length-append w (drop a.at b.line.now) in
+      let g = length-drop b.at b.line.now in
+      let h = p.goes.spans.ends in
+      omega arith
+
+  -- all of it, or its front u
+  pub passed_front : (u v : List ℕ) → w ≡ u ++ v → (n : ℕ) → length u ≡ n → take n (drop b.at b.line.now) ≡ u
+  passed_front u v e n l = ap (take n) (p.goes.spans.bytes ∙ (ap (λ z. z ++ drop a.at b.line.now) e ∙ append_assoc u v (drop a.at b.line.now))) ∙ take_at u (v ++ drop a.at b.line.now) n l
+
+pub part_described : {b a : Reader} {s s' : List Symbol} {w : List ℕ} (p : Passed b a s s' w) (u v : List ℕ) → w ≡ u ++ v
+    → (part : Part) (n : ℕ) → part.place ≡ b.at → part.bytes.now ≡ take n (drop b.at a.line.now) → length u ≡ n → DescribesPart b.at part u
+part_described {b} {a} {s} {s'} {w} p u v e part n q r l =
+    record { begins = q; holds = r ∙ (ap (λ t. take n (drop b.at t)) p.same ∙ passed_front w p u v e n l) }

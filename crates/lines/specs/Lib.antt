@@ -3,6 +3,10 @@ pub mod Faults
 pub mod Machine
 pub mod Questions
 pub mod Spots
-pub mod Words
-pub mod Reading
+pub mod TextSpots
 pub mod Nests
+pub mod Walks
+pub mod WalksLemmas
+pub mod Words
+pub mod WordsLemmas
+pub mod Reading

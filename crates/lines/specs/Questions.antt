@@ -4,10 +4,10 @@ use Rattle.std.specs.Prelude.{◌≡◌, ℕ, ◌+◌, List, ◌++◌, length, c
 use Rattle.games.specs.declared.side.Side.{Side}
 use Rattle.games.specs.Form.{Form as Game}
 use Rattle.games.specs.Text.{bytes}
+use Rattle.calls.specs.Faults.{number_of, place_of}
+use Rattle.calls.specs.declared.fault.TextFault.{TextFault}
 use Rattle.lines.specs.Syntax.{Board, domineering, toads, hackenbush, Subject, plain, minus, sum, written, Line, value, comparison, first_move, heading, items_of, spell_board, spell_subject, spell_side}
 use Rattle.lines.specs.Faults.{RightLine, Fault}
-use Rattle.lines.specs.declared.fault.LineFault.{LineFault}
-use Rattle.lines.specs.declared.fault.LineFault.TheVariants.{WrongByte, EarlyEnd, TooDeep}
 use Rattle.lines.specs.declared.question.Part.{Part}
 use Rattle.lines.specs.declared.question.Kind.{Kind}
 use Rattle.lines.specs.declared.question.Kind.TheVariants.{Domineering, Toads, Hackenbush}
@@ -17,17 +17,6 @@ use Rattle.lines.specs.declared.question.Content.TheVariants.{Plain, Minus, Sum,
 use Rattle.lines.specs.declared.question.Subject.{Subject as SubjectPart}
 use Rattle.lines.specs.declared.question.Question.{Question}
 use Rattle.lines.specs.declared.question.Question.TheVariants.{Value, Compare, Move}
-
--- a fault's number and its place
-abbrev pub number_of_fault : LineFault → ℕ
-number_of_fault (WrongByte place) = 6
-number_of_fault (EarlyEnd place) = 7
-number_of_fault (TooDeep place) = 8
-
-abbrev pub place_of_fault : LineFault → ℕ
-place_of_fault (WrongByte place) = place
-place_of_fault (EarlyEnd place) = place
-place_of_fault (TooDeep place) = place
 
 abbrev pub kind_of : Board → Kind
 kind_of (domineering rows) = Domineering
@@ -71,9 +60,9 @@ pub data Describes : Question → Line → Type 0 where
       → Describes (Move side p) (first_move side b)
 
 -- `fault` is the fault of the bytes t
-abbrev pub Faulty : List ℕ → LineFault → Type 0
-Faulty t fault = Fault t (number_of_fault fault) (place_of_fault fault)
+abbrev pub Faulty : List ℕ → TextFault → Type 0
+Faulty t fault = Fault t (number_of fault) (place_of fault)
 
 -- The answer to the bytes t: their parts, if they are a right line, or their fault.
-abbrev pub Parsed : List ℕ → Result Question LineFault → Type 0
+abbrev pub Parsed : List ℕ → Result Question TextFault → Type 0
 Parsed t answer = MatchResult answer (λ question. (l : Line) × RightLine t l × Describes question l) (Faulty t)

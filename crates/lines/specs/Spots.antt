@@ -1,14 +1,11 @@
 -- The spots of a board's items, as symbols of the machine.
 -- Assumes nothing.
 use Rattle.std.specs.Prelude.{List, [], ◌∷◌}
-use Rattle.std.proofs.Math.Option.{Option, none, some}
 use Rattle.lines.specs.Machine.{Symbol, just, squares, more_squares, cells, more_cells, from, from_digits, to, to_digits, colour, more_edges}
 use Rattle.lines.specs.declared.spot.EdgeSpot.{EdgeSpot}
 use Rattle.lines.specs.declared.spot.EdgeSpot.TheVariants.{From, Dash, FromDigits, To, Colour, ToDigits, MoreEdges}
 use Rattle.lines.specs.declared.spot.Spot.{Spot}
 use Rattle.lines.specs.declared.spot.Spot.TheVariants.{Square, MoreSquares, Cell, MoreCells, Edge}
-use Rattle.lines.specs.declared.spot.Step.{Step}
-use Rattle.lines.specs.declared.spot.Step.TheVariants.{On, End, Wrong}
 
 abbrev pub edge_symbols : EdgeSpot → List Symbol
 edge_symbols From = from ∷ []
@@ -25,9 +22,3 @@ symbols MoreSquares = more_squares ∷ []
 symbols Cell = cells ∷ []
 symbols MoreCells = more_cells ∷ []
 symbols (Edge spot) = edge_symbols spot
-
--- what is to come after a step
-abbrev pub stepped : Step → Option (List Symbol)
-stepped (On spot) = some (symbols spot)
-stepped End = some []
-stepped Wrong = none

@@ -1,8 +1,8 @@
 -- The words of a line, as the reader tells them apart: by the first letter behind a bracket.
 -- Assumes nothing.
-use Rattle.std.specs.Prelude.{◌≡◌, ℕ, List, [], ◌∷◌, codes, Option, MatchOption, slice_index}
-use Rattle.std.proofs.Math.Option.{none}
-use Rattle.lines.specs.Machine.{Symbol, just, subject, board, side, text, next}
+use Rattle.std.specs.Prelude.{◌≡◌, ℕ, ◌≤◌, List, [], ◌∷◌, ◌++◌, length, drop, codes, Option, MatchOption, slice_index}
+use Rattle.std.proofs.Math.Option.{none, some}
+use Rattle.lines.specs.Machine.{Symbol, just, subject, board, side, text, letters, next, depth}
 use Rattle.lines.specs.Spots.{symbols}
 use Rattle.lines.specs.declared.question.Kind.{Kind}
 use Rattle.lines.specs.declared.question.Kind.TheVariants.{Domineering, Toads, Hackenbush}
@@ -51,3 +51,9 @@ ask_rest Move = side ∷ just 32 ∷ board ∷ just 41 ∷ []
 -- the letter begins the word that is answered, or none that may come
 abbrev pub Begins : {A : Type 0} → Symbol → (A → List ℕ) → ℕ → Option A → Type 0
 Begins x word_of letter answer = MatchOption answer (next (x ∷ []) letter ≡ none) (λ a. letter ≡ slice_index (word_of a) 0)
+
+-- The first letter of the word w leads from the symbol x to the other letters, and what is to come behind them, outside a text.
+pub record Word (x : Symbol) (w : List ℕ) (rest : List Symbol) : Type 0 where
+  pub lettered : 1 ≤ length w
+  pub leads : next (x ∷ []) (slice_index w 0) ≡ some (letters (drop 1 w) ++ rest)
+  pub quiet : depth rest ≡ 0

@@ -1,16 +1,16 @@
 // A reader over a line, which hands out its parts.
-ghost use Rattle.std.specs.Prelude.{◌≡◌, ◌+◌, ◌<◌, ◌≤◌, [], ◌∷◌, length, drop, MatchResult, slice_index};
-ghost use Rattle.lines.specs.Machine.{letters, side};
-ghost use Rattle.lines.specs.Reading.{Expects, Fails, Goes, Reads, SameLine};
-ghost use Rattle.lines.specs.Syntax.{spell_side};
-ghost use Rattle.lines.specs.declared.fault.LineFault.TheVariants.{EarlyEnd, WrongByte};
+ghost use Rattle.std.specs.Prelude.{◌≡◌, ◌-◌, ◌<◌, ◌≤◌, [], ◌∷◌, length, take, drop, MatchResult, slice_index};
+ghost use Rattle.calls.specs.declared.fault.TextFault.TheVariants.{EarlyEnd, WrongByte};
+ghost use Rattle.lines.specs.Machine.{letters};
+ghost use Rattle.lines.specs.Reading.{Expects, Reads, Takes, Walked};
 
-use crate::fault::LineFault;
-use crate::words::side_from_letter;
-use games::side::Side;
+use crate::question::Part;
+use crate::walk::Walk;
+use crate::words::Keyword;
+use calls::fault::TextFault;
 
 mod asks;
-mod items;
+mod pieces;
 mod subjects;
 
 #[derive(Clone, Copy)]
@@ -21,67 +21,88 @@ pub struct Reader<'a> {
 
 impl<'a> Reader<'a> {
     pub fn new(line: &'a [u8]) -> Reader<'a>
-        ensures { (result.line.now ≡ line.now) × (result.at ≡ 0) }
+        ensures line { result.line.now ≡ line.now }
+        ensures at { result.at ≡ 0 }
     {
         Reader { line, at: 0 }
     }
 
     // The byte at the cursor.
-    fn peek(&self) -> Result<u8, LineFault>
+    fn peek(&self) -> Result<u8, TextFault>
         ensures { MatchResult result (λ b. (self.now.at < length self.now.line.now) × (b ≡ slice_index self.now.line.now self.now.at)) (λ f. (length self.now.line.now ≤ self.now.at) × (f ≡ EarlyEnd self.now.at)) }
     {
-        if self.at < self.line.len() {
-            Ok(self.line[self.at])
-        } else {
-            Err(LineFault::EarlyEnd(self.at))
-        }
+        self.line
+            .get(self.at)
+            .copied()
+            .ok_or(TextFault::EarlyEnd(self.at))
     }
 
     // Refuses a byte behind the end.
-    pub fn end(&self) -> Result<(), LineFault>
+    pub fn end(&self) -> Result<(), TextFault>
         ensures { MatchResult result (λ _. length self.now.line.now ≤ self.now.at) (λ f. (self.now.at < length self.now.line.now) × (f ≡ WrongByte self.now.at)) }
     {
         if self.at < self.line.len() {
-            Err(LineFault::WrongByte(self.at))
-        } else {
-            Ok(())
+            return Err(TextFault::WrongByte(self.at));
+        }
+        Ok(())
+    }
+
+    // The bytes from the place up to the end.
+    fn part(&self, place: usize, end: usize) -> Part<'a>
+        requires order { place ≤ end }
+        requires within { end ≤ length self.now.line.now }
+        ensures begins { result.place ≡ place }
+        ensures holds { result.bytes.now ≡ take (end - place) (drop place self.now.line.now) }
+    {
+        Part {
+            place,
+            bytes: &self.line[place..end],
         }
     }
 
     // Takes one byte, which must be this one.
-    fn expect(&mut self, byte: u8) -> Result<(), LineFault>
-        ensures same { SameLine self.old self.new }
-        ensures read { Expects self.old self.new byte result }
+    fn expect(&mut self, byte: u8) -> Result<(), TextFault>
+        ensures { Expects self.old self.new byte result }
     {
         if self.peek()? != byte {
-            return Err(LineFault::WrongByte(self.at));
+            return Err(TextFault::WrongByte(self.at));
         }
         self.at += 1;
         Ok(())
     }
 
-    // Takes a word, of which the first letter has been seen.
-    fn word(&mut self, word: &[u8]) -> Result<(), LineFault>
-        requires seen { self.old.at < length self.old.line.now }
-        requires some { 1 ≤ length word.now }
-        ensures same { SameLine self.old self.new }
-        ensures read { MatchResult result (λ _. Goes self.old.line.now (self.old.at + 1) self.new.at (letters (drop 1 word.now)) [] (drop 1 word.now)) (Fails self.old.line.now (self.old.at + 1) (letters (drop 1 word.now))) }
+    // Takes these bytes.
+    fn spell(&mut self, bytes: &[u8]) -> Result<(), TextFault>
+        ensures { Reads self.old self.new (letters bytes.now) (λ _ w. w ≡ bytes.now) result }
     {
-        self.at += 1;
-        for byte in &word[1..] {
+        for byte in bytes {
             self.expect(*byte)?;
         }
         Ok(())
     }
 
-    fn side(&mut self) -> Result<Side, LineFault>
-        ensures same { SameLine self.old self.new }
-        ensures read { Reads self.old self.new (side ∷ []) (λ s w. w ≡ spell_side s) result }
+    // Takes one of the words, which its first letter tells.
+    fn keyword<K: Keyword>(&mut self) -> Result<K, TextFault>
+        ensures { Takes self.old self.new (K.symbol ∷ []) K.rest (λ keyword w. w ≡ K.spelt keyword) result }
     {
-        let Some(side) = side_from_letter(self.peek()?) else {
-            return Err(LineFault::WrongByte(self.at));
+        let Some(keyword) = K::from_letter(self.peek()?) else {
+            return Err(TextFault::WrongByte(self.at));
         };
         self.at += 1;
-        Ok(side)
+        self.spell(&keyword.word()[1..])?;
+        Ok(keyword)
+    }
+
+    // Takes the bytes of a walk from its start, the last one too.
+    fn walk<W: Walk>(&mut self, start: W) -> Result<(), TextFault>
+        ensures { Reads self.old self.new (W.stack start) (λ _ w. Walked (W.stack start) W.last w) result }
+    {
+        let mut walk = start;
+        while let Some(next) = walk.step(self.peek()?, self.at)? {
+            walk = next;
+            self.at += 1;
+        }
+        self.at += 1;
+        Ok(())
     }
 }

@@ -1,8 +1,10 @@
 // Where a reader stands in the items of a board: which bytes may come, and where each leads.
-ghost use Rattle.std.specs.Prelude.{◌≡◌};
-ghost use Rattle.lines.specs.Machine.{next};
-ghost use Rattle.lines.specs.Spots.{edge_symbols, stepped, symbols};
-ghost use Rattle.lines.specs.declared.spot.Step.TheVariants.{End};
+ghost use Rattle.lines.specs.Spots.{edge_symbols, symbols};
+ghost use Rattle.lines.specs.Walks.{Stepped};
+ghost use Rattle.lines.specs.WalksLemmas.{spot_ongoing};
+
+use crate::walk::Walk;
+use calls::fault::TextFault;
 
 // In an edge; behind a vertex 0 there is no further digit.
 #[derive(Clone, Copy)]
@@ -25,48 +27,29 @@ pub enum Spot {
     Edge(EdgeSpot),
 }
 
-// What a byte does: it leads on, ends the items, or is wrong.
-#[derive(Clone, Copy)]
-pub enum Step {
-    On(Spot),
-    End,
-    Wrong,
-}
+impl Walk for Spot {
+    ghost stack = { symbols };
 
-impl Spot {
-    pub fn step(self, byte: u8) -> Step
-        ensures leads { next (symbols self) byte ≡ stepped result }
-        ensures closes { result ≡ End → byte ≡ 41 }
-    {
-        match self {
-            Spot::Square => match byte {
-                b'.' | b'#' => Step::On(Spot::MoreSquares),
-                _ => Step::Wrong,
-            },
-            Spot::MoreSquares => match byte {
-                b'.' | b'#' => Step::On(Spot::MoreSquares),
-                b'/' => Step::On(Spot::Square),
-                b')' => Step::End,
-                _ => Step::Wrong,
-            },
-            Spot::Cell => match byte {
-                b'T' | b'F' | b'.' => Step::On(Spot::MoreCells),
-                _ => Step::Wrong,
-            },
-            Spot::MoreCells => match byte {
-                b'T' | b'F' | b'.' => Step::On(Spot::MoreCells),
-                b')' => Step::End,
-                _ => Step::Wrong,
-            },
-            Spot::Edge(spot) => spot.step(byte),
-        }
+    ghost last = { 41 };
+
+    ghost ongoing = { spot_ongoing };
+
+    fn step(self, byte: u8, place: usize) -> Result<Option<Spot>, TextFault> {
+        let spot = match (self, byte) {
+            (Spot::Square | Spot::MoreSquares, b'.' | b'#') => Spot::MoreSquares,
+            (Spot::MoreSquares, b'/') => Spot::Square,
+            (Spot::Cell | Spot::MoreCells, b'T' | b'F' | b'.') => Spot::MoreCells,
+            (Spot::MoreSquares | Spot::MoreCells, b')') => return Ok(None),
+            (Spot::Edge(spot), byte) => return spot.step(byte, place),
+            _ => return Err(TextFault::WrongByte(place)),
+        };
+        Ok(Some(spot))
     }
 }
 
 impl EdgeSpot {
-    fn step(self, byte: u8) -> Step
-        ensures leads { next (edge_symbols self) byte ≡ stepped result }
-        ensures closes { result ≡ End → byte ≡ 41 }
+    fn step(self, byte: u8, place: usize) -> Result<Option<Spot>, TextFault>
+        ensures { Stepped symbols 41 (edge_symbols self) byte place result }
     {
         let spot = match (self, byte) {
             (EdgeSpot::From, b'0') => EdgeSpot::Dash,
@@ -78,9 +61,9 @@ impl EdgeSpot {
             (EdgeSpot::ToDigits, b'0'..=b'9') => EdgeSpot::ToDigits,
             (EdgeSpot::ToDigits | EdgeSpot::Colour, b'L' | b'R' | b'B') => EdgeSpot::MoreEdges,
             (EdgeSpot::MoreEdges, b',') => EdgeSpot::From,
-            (EdgeSpot::MoreEdges, b')') => return Step::End,
-            _ => return Step::Wrong,
+            (EdgeSpot::MoreEdges, b')') => return Ok(None),
+            _ => return Err(TextFault::WrongByte(place)),
         };
-        Step::On(Spot::Edge(spot))
+        Ok(Some(Spot::Edge(spot)))
     }
 }

@@ -1,20 +1,56 @@
 // The words of a line: the first letter tells which word comes.
-ghost use Rattle.std.specs.Prelude.{◌≡◌};
-ghost use Rattle.lines.specs.Machine.{board_word, line_word, side, subject_word};
+ghost use Rattle.std.specs.Prelude.{◌≡◌, ℕ, List, []};
+ghost use Rattle.lines.specs.Machine.{Symbol, board_word, line_word, side, subject_word};
+ghost use Rattle.lines.specs.Spots.{symbols};
 ghost use Rattle.lines.specs.Syntax.{spell_side};
-ghost use Rattle.lines.specs.Words.{Begins, ask_word, heading_word, kind_spot, kind_word};
+ghost use Rattle.lines.specs.Words.{Begins, Word, ask_rest, ask_word, heading_rest, heading_word, kind_spot, kind_word};
+ghost use Rattle.lines.specs.WordsLemmas.{ask_leads, heading_leads, kind_leads, side_leads};
 
 use crate::question::Kind;
 use crate::spot::{EdgeSpot, Spot};
 use games::side::Side;
 
-pub fn side_from_letter(letter: u8) -> Option<Side>
-    ensures { Begins side spell_side letter result }
-{
-    match letter {
-        b'L' => Some(Side::Left),
-        b'R' => Some(Side::Right),
-        _ => None,
+// What each word stands for, of a few words with different first letters.
+pub trait Keyword: Copy {
+    // the symbol of the machine where one of the words is to come
+    ghost symbol: { Symbol };
+
+    // the word, and what is to come behind it
+    ghost spelt: { Self → List ℕ };
+
+    ghost rest: { Self → List Symbol };
+
+    fn from_letter(letter: u8) -> Option<Self>
+        ensures { Begins symbol spelt letter result };
+
+    fn word(self) -> &'static [u8]
+        ensures { result.now ≡ spelt self };
+
+    ghost leads: { (keyword : Self) → Word symbol (spelt keyword) (rest keyword) };
+}
+
+impl Keyword for Side {
+    ghost symbol = { side };
+
+    ghost spelt = { spell_side };
+
+    ghost rest = { λ s. [] };
+
+    ghost leads = { side_leads };
+
+    fn from_letter(letter: u8) -> Option<Side> {
+        match letter {
+            b'L' => Some(Side::Left),
+            b'R' => Some(Side::Right),
+            _ => None,
+        }
+    }
+
+    fn word(self) -> &'static [u8] {
+        match self {
+            Side::Left => b"L",
+            Side::Right => b"R",
+        }
     }
 }
 
@@ -26,10 +62,16 @@ pub enum Ask {
     Move,
 }
 
-impl Ask {
-    pub fn from_letter(letter: u8) -> Option<Ask>
-        ensures { Begins line_word ask_word letter result }
-    {
+impl Keyword for Ask {
+    ghost symbol = { line_word };
+
+    ghost spelt = { ask_word };
+
+    ghost rest = { ask_rest };
+
+    ghost leads = { ask_leads };
+
+    fn from_letter(letter: u8) -> Option<Ask> {
         match letter {
             b'v' => Some(Ask::Value),
             b'c' => Some(Ask::Compare),
@@ -38,9 +80,7 @@ impl Ask {
         }
     }
 
-    pub fn word(self) -> &'static [u8]
-        ensures { result.now ≡ ask_word self }
-    {
+    fn word(self) -> &'static [u8] {
         match self {
             Ask::Value => b"value ",
             Ask::Compare => b"compare ",
@@ -58,24 +98,25 @@ pub enum Heading {
     Board(Kind),
 }
 
-impl Heading {
-    pub fn from_letter(letter: u8) -> Option<Heading>
-        ensures { Begins subject_word heading_word letter result }
-    {
+impl Keyword for Heading {
+    ghost symbol = { subject_word };
+
+    ghost spelt = { heading_word };
+
+    ghost rest = { heading_rest };
+
+    ghost leads = { heading_leads };
+
+    fn from_letter(letter: u8) -> Option<Heading> {
         match letter {
             b'm' => Some(Heading::Minus),
             b's' => Some(Heading::Sum),
             b'f' => Some(Heading::Form),
-            b'd' => Some(Heading::Board(Kind::Domineering)),
-            b't' => Some(Heading::Board(Kind::Toads)),
-            b'h' => Some(Heading::Board(Kind::Hackenbush)),
-            _ => None,
+            _ => Some(Heading::Board(Kind::from_letter(letter)?)),
         }
     }
 
-    pub fn word(self) -> &'static [u8]
-        ensures { result.now ≡ heading_word self }
-    {
+    fn word(self) -> &'static [u8] {
         match self {
             Heading::Minus => b"minus ",
             Heading::Sum => b"sum ",
@@ -85,10 +126,16 @@ impl Heading {
     }
 }
 
-impl Kind {
-    pub fn from_letter(letter: u8) -> Option<Kind>
-        ensures { Begins board_word kind_word letter result }
-    {
+impl Keyword for Kind {
+    ghost symbol = { board_word };
+
+    ghost spelt = { kind_word };
+
+    ghost rest = { λ kind. symbols (kind_spot kind) };
+
+    ghost leads = { kind_leads };
+
+    fn from_letter(letter: u8) -> Option<Kind> {
         match letter {
             b'd' => Some(Kind::Domineering),
             b't' => Some(Kind::Toads),
@@ -97,16 +144,16 @@ impl Kind {
         }
     }
 
-    pub fn word(self) -> &'static [u8]
-        ensures { result.now ≡ kind_word self }
-    {
+    fn word(self) -> &'static [u8] {
         match self {
             Kind::Domineering => b"domineering ",
             Kind::Toads => b"toads ",
             Kind::Hackenbush => b"hackenbush ",
         }
     }
+}
 
+impl Kind {
     // Where a reader stands before the items.
     pub fn first_spot(self) -> Spot
         ensures { result ≡ kind_spot self }

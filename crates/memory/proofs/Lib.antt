@@ -1,2 +1,1 @@
-mod Tables
-mod Both
+mod Filled

@@ -3,5 +3,7 @@
 
 mod direct;
 pub mod memory;
+pub mod notes;
 mod slot;
 mod slots;
+mod table;

@@ -1,10 +1,12 @@
 // A memory of numbers by codes.
-ghost use Rattle.std.specs.Prelude.{ℕ};
-ghost use Rattle.memory.specs.Memories.{Holds, HoldsLess};
+ghost use Rattle.std.specs.Prelude.{ℕ, ◌≤◌};
+ghost use Rattle.memory.specs.Memories.{Holds, HoldsLess, HoldsOf};
 ghost use Rattle.memory.specs.Holds.{More, Recalls};
 
 use crate::direct::Direct;
+use crate::notes::Notes;
 use crate::slots::Slots;
+use crate::table::Table;
 use std::alloc::Global;
 
 // The places that a hashed table begins with, and the most that it may have: 16 bytes each, so 256 MiB.
@@ -12,31 +14,28 @@ const FIRST: usize = 256;
 
 const MOST: usize = 16_777_216;
 
-// A hashed table of so many places gives way to one with a place for every code, where the codes are below the limit.
+// A hashed table of so many places gives way to one with a place for every code, where the codes are below the limit: 4 bytes each, so 64 MiB.
 const SWITCH: usize = 65_536;
 
 const LIMIT: u64 = 16_777_216;
 
-// Numbers by codes: a hashed table at first, and one with a place for every code below the limit once many are noted.
-// It takes more memory as it needs it; where there is none, it forgets.
+// Numbers by codes. It takes more memory as it needs it; where there is none, it forgets.
 #[derive(Drop)]
 pub struct Memory {
     heap: Global,
     limit: u64,
-    slots: Slots,
-    direct: Direct,
+    table: Table,
 }
 
 impl Memory {
-    // A memory that holds nothing, and takes no room yet.
+    // A memory that holds nothing, takes no room yet, and is ready for any code.
     pub fn new(heap: Global) -> Memory
         ensures { (code n : ℕ) → Holds result code n → ⊥ }
     {
         Memory {
             heap,
-            limit: 0,
-            slots: Slots::new(heap),
-            direct: Direct::new(heap),
+            limit: u64::MAX,
+            table: Table::Hashed(Slots::new(heap)),
         }
     }
 
@@ -45,80 +44,83 @@ impl Memory {
         ensures { (code n : ℕ) → Holds self.new code n → ⊥ }
     {
         self.limit = limit;
-        self.slots = Slots::new(self.heap);
-        self.direct = Direct::new(self.heap);
+        self.table = Table::Hashed(Slots::new(self.heap));
     }
 
     // The number that was noted for the code, if it is still known.
     pub fn recall(&self, code: u64) -> Option<u16>
         ensures { Recalls (λ n. Holds self.now code n) result }
     {
-        if self.direct.has_place(code) {
-            self.direct.recall(code)
-        } else {
-            self.slots.recall(code)
-        }
-    }
-
-    // A larger hashed table takes over, if there is memory for it.
-    fn widen(&mut self)
-        ensures { HoldsLess self.old self.new }
-    {
-        let places = self.slots.places();
-        let more = places.saturating_mul(4).clamp(FIRST, MOST);
-        if more <= places {
-            return;
-        }
-        let Some(mut slots) = Slots::with_places(self.heap, more) else {
-            return;
-        };
-        self.slots.copy_into(&mut slots);
-        self.slots = slots;
-    }
-
-    // A table with a place for every code takes over, if there is memory for it; answers whether it has.
-    fn switch(&mut self) -> bool
-        ensures { HoldsLess self.old self.new }
-    {
-        if self.limit > LIMIT {
-            return false;
-        }
-        let Some(mut direct) = Direct::with_places(self.heap, self.limit as usize) else {
-            return false;
-        };
-        self.slots.copy_over(&mut direct);
-        self.slots = Slots::new(self.heap);
-        self.direct = direct;
-        true
-    }
-
-    // A larger table takes over, if there is memory for it.
-    fn grow(&mut self)
-        ensures { HoldsLess self.old self.new }
-    {
-        if self.slots.places() < SWITCH || !self.switch() {
-            self.widen();
-        }
-    }
-
-    // Room for the code, if it has none and there is memory for more.
-    fn make_room(&mut self, code: u64)
-        ensures { HoldsLess self.old self.new }
-    {
-        if !self.direct.has_place(code) && self.slots.is_crowded() {
-            self.grow();
-        }
+        self.table.recall(code)
     }
 
     // Notes the number for the code.
     pub fn note(&mut self, code: u64, number: u16)
         ensures { More (Holds self.old) code number (Holds self.new) }
     {
-        self.make_room(code);
-        if self.direct.has_place(code) {
-            self.direct.note(code, number);
-        } else {
-            self.slots.note(code, number);
+        self.make_room();
+        self.table.note(code, number);
+    }
+
+    // A larger table takes over from a crowded one, if there is memory for it.
+    fn make_room(&mut self)
+        ensures { HoldsLess self.old self.new }
+    {
+        let Table::Hashed(slots) = &self.table else {
+            return;
+        };
+        if !slots.is_crowded() {
+            return;
         }
+        if let Some(table) = self.larger(slots) {
+            self.table = table;
+        }
+    }
+
+    // A larger table that holds what this one does, if there is memory for it.
+    fn larger(&self, slots: &Slots) -> Option<Table>
+        ensures { HoldsOf slots.now result }
+    {
+        if slots.places() >= SWITCH && self.limit <= LIMIT {
+            self.indexed(slots).or_else(|| self.wider(slots))
+        } else {
+            self.wider(slots)
+        }
+    }
+
+    // A table with a place for every code below the limit, if there is memory for it.
+    fn indexed(&self, slots: &Slots) -> Option<Table>
+        requires { self.now.limit ≤ 16777216 }
+        ensures { HoldsOf slots.now result }
+    {
+        let mut direct = Direct::with_places(self.heap, self.limit as usize)?;
+        slots.copy_into(&mut direct);
+        Some(Table::Indexed(direct))
+    }
+
+    // A larger hashed table, if it may be larger and there is memory for it.
+    fn wider(&self, slots: &Slots) -> Option<Table>
+        ensures { HoldsOf slots.now result }
+    {
+        let places = slots.places();
+        let more = places.saturating_mul(4).clamp(FIRST, MOST);
+        if more <= places {
+            return None;
+        }
+        let mut wide = Slots::with_places(self.heap, more)?;
+        slots.copy_into(&mut wide);
+        Some(Table::Hashed(wide))
+    }
+}
+
+impl Notes for Memory {
+    ghost holds = { λ memory code n. Holds memory code n };
+
+    fn recall(&self, code: u64) -> Option<u16> {
+        Memory::recall(self, code)
+    }
+
+    fn note(&mut self, code: u64, number: u16) {
+        Memory::note(self, code, number);
     }
 }

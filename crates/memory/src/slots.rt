@@ -1,9 +1,9 @@
 // A hashed table of codes, each near the place that its hash names.
-ghost use Rattle.std.specs.Prelude.{◌≡◌, ◌^◌, ◌<◌, []};
-ghost use Rattle.memory.specs.Holds.{Among, At, Joined, More, Reads, Recalls};
+ghost use Rattle.std.specs.Prelude.{◌≡◌, ◌^◌, ◌<◌, [], IfSome, length};
+ghost use Rattle.memory.specs.Holds.{Among, Joined};
 ghost use Rattle.memory.specs.Tables.{AllFree};
 
-use crate::direct::Direct;
+use crate::notes::Notes;
 use crate::slot::Slot;
 use std::alloc::Global;
 
@@ -12,8 +12,7 @@ const TRIES: usize = 16;
 
 const FREE: Slot = Slot {
     code: 0,
-    number: 0,
-    taken: false,
+    number: None,
 };
 
 #[derive(Drop)]
@@ -23,34 +22,6 @@ pub struct Slots {
 }
 
 impl Slots {
-    // The place that a code's hash names, in a table of a power of two places.
-    fn home(&self, code: u64) -> usize
-        ensures { result < 2 ^ 32 }
-    {
-        (code.wrapping_mul(0x9E37_79B9_7F4A_7C15) >> 32) as usize
-    }
-
-    // The number that was noted for the code, if it is still known.
-    pub fn recall(&self, code: u64) -> Option<u16>
-        ensures { Recalls (λ n. Among self.now.slots.items code n) result }
-    {
-        if self.slots.len() == 0 {
-            return None;
-        }
-        let last = self.slots.len() - 1;
-        let home = self.home(code);
-        for i in 0..TRIES {
-            let slot = self.slots[(home + i) & last];
-            if !slot.taken {
-                return None;
-            }
-            if slot.code == code {
-                return Some(slot.number);
-            }
-        }
-        None
-    }
-
     // A table without places, which takes no memory.
     pub fn new(heap: Global) -> Slots
         ensures { result.slots.items ≡ [] }
@@ -66,9 +37,7 @@ impl Slots {
         ensures { AllFree result }
     {
         let mut slots = Vec::new(heap);
-        if slots.resize(places, FREE).is_err() {
-            return None;
-        }
+        slots.resize(places, FREE).ok()?;
         Some(Slots { slots, taken: 0 })
     }
 
@@ -81,75 +50,59 @@ impl Slots {
         self.taken >= self.slots.len() / 2
     }
 
-    // What the place holds, if it is taken.
-    pub fn at(&self, place: usize) -> Option<(u64, u16)>
-        ensures { Reads self.now.slots.items result }
+    // The place that a code's hash names, in a table of a power of two places.
+    fn home(&self, code: u64) -> usize
+        ensures { result < 2 ^ 32 }
     {
-        if place >= self.slots.len() {
-            return None;
-        }
-        let slot = self.slots[place];
-        if slot.taken {
-            Some((slot.code, slot.number))
-        } else {
-            None
-        }
+        (code.wrapping_mul(0x9E37_79B9_7F4A_7C15) >> 32) as usize
     }
 
-    // Notes the number for the code, in the first place that is free or has the code; where all are taken, in the place of another.
-    pub fn note(&mut self, code: u64, number: u16)
-        ensures { More (Among self.old.slots.items) code number (Among self.new.slots.items) }
+    // The first place tried that is free or has the code, or else the first one tried; none in a table without places.
+    fn place(&self, code: u64) -> Option<usize>
+        ensures { IfSome result (λ p. p < length self.now.slots.items) }
     {
-        let place = self.place(code);
-        if place >= self.slots.len() {
-            return;
+        let last = self.slots.len().checked_sub(1)?;
+        let home = self.home(code);
+        for tried in home..home + TRIES {
+            let place = tried & last;
+            if self.slots[place].suits(code) {
+                return Some(place);
+            }
         }
-        if !self.slots[place].taken {
+        Some(home & last)
+    }
+
+    // Notes in another table what this one holds.
+    pub fn copy_into<N: Notes>(&self, other: &mut N)
+        ensures { Joined (Among self.now.slots.items) (N.holds other.old) (N.holds other.new) }
+    {
+        for slot in &self.slots {
+            if let Some(number) = slot.number {
+                other.note(slot.code, number);
+            }
+        }
+    }
+}
+
+impl Notes for Slots {
+    ghost holds = { λ s. Among s.slots.items };
+
+    fn recall(&self, code: u64) -> Option<u16> {
+        let slot = self.slots[self.place(code)?];
+        if slot.code == code { slot.number } else { None }
+    }
+
+    // Where all the places tried are taken, the number is noted in the place of another.
+    fn note(&mut self, code: u64, number: u16) {
+        let Some(place) = self.place(code) else {
+            return;
+        };
+        if self.slots[place].number.is_none() {
             self.taken = self.taken.saturating_add(1);
         }
         self.slots[place] = Slot {
             code,
-            number,
-            taken: true,
+            number: Some(number),
         };
-    }
-
-    // The first place tried that is free or has the code, or else the last one tried.
-    fn place(&self, code: u64) -> usize {
-        if self.slots.len() == 0 {
-            return 0;
-        }
-        let last = self.slots.len() - 1;
-        let home = self.home(code);
-        for i in 0..TRIES {
-            let place = (home + i) & last;
-            let slot = self.slots[place];
-            if !slot.taken || slot.code == code {
-                return place;
-            }
-        }
-        home & last
-    }
-
-    // Notes in another table what this one holds.
-    pub fn copy_into(&self, other: &mut Slots)
-        ensures { Joined (Among self.now.slots.items) (Among other.old.slots.items) (Among other.new.slots.items) }
-    {
-        for place in 0..self.slots.len() {
-            if let Some((code, number)) = self.at(place) {
-                other.note(code, number);
-            }
-        }
-    }
-
-    // Notes in a table with a place for every code what this one holds.
-    pub fn copy_over(&self, direct: &mut Direct)
-        ensures { Joined (Among self.now.slots.items) (At direct.old.numbers.items) (At direct.new.numbers.items) }
-    {
-        for place in 0..self.slots.len() {
-            if let Some((code, number)) = self.at(place) {
-                direct.note(code, number);
-            }
-        }
     }
 }

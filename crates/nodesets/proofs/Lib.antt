@@ -1,3 +1,4 @@
 pub mod Words
 pub mod Sides
+pub mod Made
 pub mod Next

@@ -1,13 +1,12 @@
--- The next number that is in a set, or not: the lowest bit of a word, or of its complement; and the lowest number in two sets.
+-- The next number that passes a test, which a word tells for the 64 numbers round k; and what follows from it.
 -- Assumes nothing.
-use Rattle.std.proofs.Common.{◌≡◌, ℕ, zero, suc, ◌+◌, ◌-◌, ◌*◌, ◌/◌, ◌%◌, ◌^◌, ◌<◌, ◌≤◌, true, false, not, ◌&&◌, ltb, ◌≢◌, List, get_or, sym, ap, ◌∙◌, inl, inr, pow-suc, div-le_self, arith}
+use Rattle.std.proofs.Common.{◌≡◌, ℕ, zero, suc, ◌+◌, ◌-◌, ◌*◌, ◌/◌, ◌%◌, ◌^◌, ◌<◌, ◌≤◌, Bool, true, false, cond, not, ◌&&◌, ◌≢◌, List, get_or, bit_xor, Option, None, Some, MatchOption, Decides, sym, refl, ap, ◌∙◌, inl, inr, pow-suc, div-le_self, arith}
 use lib.Count.{count_trailing_zeros}
-use Rattle.std.proofs.lemmas.Bool.{cases_eq, cases_lt, cases_Bool, and_parts, and_from, both_ways, eq-eqb, ne_eqb, lt-ltb, ltb-true, not-true}
+use Rattle.std.specs.Option.{is_some}
+use Rattle.std.proofs.lemmas.Bool.{cases_eq, cases_lt, and_parts, and_from, both_ways, eq-eqb, ne_eqb, lt-ltb, false≢true}
 use Rattle.bits.specs.Bits.{bit}
-use Rattle.bits.proofs.Words.{bit_first, bit_next, bit_none, bit_not, bit_and_lem, bit_past, bit_shr}
-use lib.Bits.{bit_and}
-use Rattle.std.proofs.lemmas.Nat.{and_le_l}
-use Rattle.nodesets.specs.Sets.{mem, Lowest, NextInside, NextOutside}
+use Rattle.bits.proofs.Words.{bit_first, bit_next, bit_none, bit_mask, bit_xor_lem, bit_past, bit_shr}
+use Rattle.nodesets.specs.Sets.{mem, Meet, Lowest, First, Next}
 
 -- the lowest bit that is set
 pub lowest_at : (n w : ℕ) → w < 2 ^ n → w ≢ 0 → bit w (count_trailing_zeros n w) ≡ true
@@ -30,128 +29,96 @@ lowest_below (suc n) w j h = elim (cases_eq (w % 2) 1) [
     even e up zero l = bit_first w ∙ ne_eqb (w % 2) 1 (λ d. omega arith)
     even e up (suc j) l = bit_next w j ∙ up j (omega arith)
 
--- the complement of a word, from bit m on
-module _ (w m : ℕ) (fits : w < 2 ^ 64) where
-  abbrev pub rest : ℕ
-  rest = (2 ^ 64 - 1 - w) / 2 ^ m
+-- from k on, where no number that stands before it passes the test, and v tells the test for the numbers of k's word
+module _ (p : ℕ → Bool) (start k v : ℕ) (small : k < 384) (fits : v < 2 ^ 64) (tells : (j : ℕ) → j / 64 ≡ k / 64 → p j ≡ bit v (j % 64)) (from : start ≤ k) (passed : (j : ℕ) → start ≤ j → j < k → p j ≡ false) where
+  in_word : (j : ℕ) → k ≤ j → j / 64 ≡ k / 64 → p j ≡ bit (v / 2 ^ (k % 64)) (j - k)
+  in_word j l e = let d : j % 64 ≡ j - k + k % 64 = omega arith in tells j e ∙ rw d (sym (bit_shr v (k % 64) (j - k)))
 
-  rest_bit : (j : ℕ) → bit rest j ≡ (ltb (j + m) 64 && not (bit w (j + m)))
-  rest_bit j = bit_shr (2 ^ 64 - 1 - w) m j ∙ bit_not w 64 (j + m) fits
-
-  pub rest_set : (j : ℕ) → bit rest j ≡ true → (j + m < 64) × (bit w (j + m) ≡ false)
-  rest_set j t = let (a, b) = and_parts (ltb (j + m) 64) (not (bit w (j + m))) (sym (rest_bit j) ∙ t) in (ltb-true (j + m) 64 a, not-true _ b)
-
-  pub rest_clear : (j : ℕ) → j + m < 64 → bit rest j ≡ false → bit w (j + m) ≡ true
-  rest_clear j l f = elim (cases_Bool (bit w (j + m))) [ inl t ↦ t | inr e ↦ absurd (both_ways _ f (rest_bit j ∙ set e)) ]
-    where
-      set : bit w (j + m) ≡ false → (ltb (j + m) 64 && not (bit w (j + m))) ≡ true
-      set e = rw (lt-ltb (j + m) 64 l, e)
-
--- from k on, with all passed that stand before it
-module _ (ws : List ℕ) (start k : ℕ) (small : k < 384) (fits : get_or ws (k / 64) 0 < 2 ^ 64) (from : start ≤ k) (passed : (j : ℕ) → start ≤ j → j < k → j < 384 → mem ws j ≡ true) where
-  on : (j : ℕ) → k ≤ j → j / 64 ≡ k / 64 → bit (get_or ws (k / 64) 0) (j - k + k % 64) ≡ true → mem ws j ≡ true
-  unfolding mem
-  on j l e t = let d : j % 64 ≡ j - k + k % 64 = omega arith in rw (e, d) t
-
-  pub next_all : rest (get_or ws (k / 64) 0) (k % 64) fits ≡ 0 → (j : ℕ) → start ≤ j → j < k / 64 * 64 + 64 → j < 384 → mem ws j ≡ true
-  next_all e j s l h = elim (cases_lt j k) [
-    | inl p ↦ passed j s p h
-    | inr p ↦ on j p (omega arith) (rest_clear (get_or ws (k / 64) 0) (k % 64) fits (j - k) (omega arith) (ap (λ r. bit r (j - k)) e ∙ bit_none (j - k)))
+  pub next_none : v / 2 ^ (k % 64) ≡ 0 → (j : ℕ) → start ≤ j → j < (k / 64 + 1) * 64 → p j ≡ false
+  next_none e j s l = elim (cases_lt j k) [
+    | inl h ↦ passed j s h
+    | inr h ↦ in_word j h (omega arith) ∙ (ap (λ r. bit r (j - k)) e ∙ bit_none (j - k))
   ]
 
-  module _ (some : rest (get_or ws (k / 64) 0) (k % 64) fits ≢ 0) where
-    abbrev t : ℕ
-    t = count_trailing_zeros 64 (rest (get_or ws (k / 64) 0) (k % 64) fits)
-
-    low : rest (get_or ws (k / 64) 0) (k % 64) fits < 2 ^ 64
-    low = let d : rest (get_or ws (k / 64) 0) (k % 64) fits ≤ 2 ^ 64 - 1 - get_or ws (k / 64) 0 = div-le_self _ _ in omega arith
-
-    found : (t + k % 64 < 64) × (bit (get_or ws (k / 64) 0) (t + k % 64) ≡ false)
-    found = rest_set (get_or ws (k / 64) 0) (k % 64) fits t (lowest_at 64 _ low some)
-
-    off : t + k % 64 < 64 → bit (get_or ws (k / 64) 0) (t + k % 64) ≡ false → mem ws (k + t) ≡ false
-    unfolding mem
-    off l f = let d : (k + t) / 64 ≡ k / 64 = omega arith in let e : (k + t) % 64 ≡ t + k % 64 = omega arith in rw (d, e) f
-
-    pub next_found : NextOutside (mem ws) start (k + t)
-    next_found = record {
-      passed = λ j s l. elim (cases_lt j k) [
-        | inl p ↦ passed j s p (let f = found.0 in omega arith)
-        | inr p ↦ let f = found.0 in on j p (omega arith) (rest_clear (get_or ws (k / 64) 0) (k % 64) fits (j - k) (omega arith) (lowest_below 64 _ (j - k) (omega arith)))
-      ];
-      outside = λ h. off found.0 found.1;
-      reach = λ h. omega arith;
-      bound = let f = found.0 in omega arith;
-    }
-
--- from k on, where no number that stands before it is in the set
-module _ (ws : List ℕ) (start k : ℕ) (small : k < 384) (fits : get_or ws (k / 64) 0 < 2 ^ 64) (from : start ≤ k) (passed : (j : ℕ) → start ≤ j → j < k → j < 384 → mem ws j ≡ false) where
-  in_word : (j : ℕ) → k ≤ j → j / 64 ≡ k / 64 → mem ws j ≡ bit (get_or ws (k / 64) 0 / 2 ^ (k % 64)) (j - k)
-  unfolding mem
-  in_word j l e = let d : j % 64 ≡ j - k + k % 64 = omega arith in rw (e, d) (sym (bit_shr (get_or ws (k / 64) 0) (k % 64) (j - k)))
-
-  pub inside_none : get_or ws (k / 64) 0 / 2 ^ (k % 64) ≡ 0 → (j : ℕ) → start ≤ j → j < k / 64 * 64 + 64 → j < 384 → mem ws j ≡ false
-  inside_none e j s l h = elim (cases_lt j k) [
-    | inl p ↦ passed j s p h
-    | inr p ↦ in_word j p (omega arith) ∙ (ap (λ r. bit r (j - k)) e ∙ bit_none (j - k))
-  ]
-
-  module _ (some : get_or ws (k / 64) 0 / 2 ^ (k % 64) ≢ 0) where
+  module _ (some : v / 2 ^ (k % 64) ≢ 0) where
     abbrev first : ℕ
-    first = count_trailing_zeros 64 (get_or ws (k / 64) 0 / 2 ^ (k % 64))
+    first = count_trailing_zeros 64 (v / 2 ^ (k % 64))
 
-    first_set : bit (get_or ws (k / 64) 0 / 2 ^ (k % 64)) first ≡ true
-    first_set =
-        let d : get_or ws (k / 64) 0 / 2 ^ (k % 64) ≤ get_or ws (k / 64) 0 = div-le_self _ _ in
-        lowest_at 64 _ (omega arith) some
+    first_set : bit (v / 2 ^ (k % 64)) first ≡ true
+    first_set = let d : v / 2 ^ (k % 64) ≤ v = div-le_self _ _ in lowest_at 64 _ (omega arith) some
 
     first_in : first + k % 64 < 64
-    first_in = elim (cases_lt (first + k % 64) 64) [
-      | inl l ↦ l
-      | inr l ↦ absurd (both_ways _ (bit_past (get_or ws (k / 64) 0) 64 (first + k % 64) fits l) (sym (bit_shr (get_or ws (k / 64) 0) (k % 64) first) ∙ first_set))
-    ]
+    first_in = elim (cases_lt (first + k % 64) 64) [ inl l ↦ l | inr l ↦ absurd (both_ways _ (bit_past v 64 (first + k % 64) fits l) (sym (bit_shr v (k % 64) first) ∙ first_set)) ]
 
-    pub inside_found : NextInside (mem ws) start (k + first)
-    inside_found =
+    pub next_found : First p start (k + first)
+    next_found =
         let f = first_in in
         record {
-          passed = λ j s l. elim (cases_lt j k) [
-            | inl p ↦ passed j s p (omega arith)
-            | inr p ↦ in_word j p (omega arith) ∙ lowest_below 64 _ (j - k) (omega arith)
-          ];
-          inside = λ h. in_word (k + first) (omega arith) (omega arith) ∙ (let e : k + first - k ≡ first = omega arith in rw e first_set);
-          reach = λ h. omega arith;
+          reach = omega arith;
           bound = omega arith;
+          here = in_word (k + first) (omega arith) (omega arith) ∙ (let e : k + first - k ≡ first = omega arith in rw e first_set);
+          passed = λ j s l. elim (cases_lt j k) [
+            | inl h ↦ passed j s h
+            | inr h ↦ in_word j h (omega arith) ∙ lowest_below 64 _ (j - k) (omega arith)
+          ];
         }
 
--- the lowest number in two sets: word i is the first that has a bit of both
-module _ (xs ys : List ℕ) (i : ℕ) (fits : get_or xs i 0 < 2 ^ 64) (before : (k : ℕ) → k < i → bit_and (get_or xs k 0) (get_or ys k 0) ≡ 0) (some : bit_and (get_or xs i 0) (get_or ys i 0) ≢ 0) where
-  abbrev both : ℕ
-  both = bit_and (get_or xs i 0) (get_or ys i 0)
+-- whether a number's bit differs from that of a mask
+abbrev pub differs : (ℕ → Bool) → ℕ → ℕ → Bool
+differs p mask j = cond (p j) (not (bit mask (j % 64))) (bit mask (j % 64))
 
-  low_both : both < 2 ^ 64
-  low_both = let h = and_le_l (get_or xs i 0) (get_or ys i 0) in omega arith
+pub tells_differs : (ws : List ℕ) (mask k j : ℕ) → j / 64 ≡ k / 64 → differs (mem ws) mask j ≡ bit (bit_xor (get_or ws (k / 64) 0) mask) (j % 64)
+unfolding mem
+tells_differs ws mask k j e = rw e (sym (bit_xor_lem (get_or ws (k / 64) 0) mask (j % 64)))
 
-  both_set : bit both (count_trailing_zeros 64 both) ≡ true
-  both_set = lowest_at 64 both low_both some
+-- a test that says the same
+pub next_same : (p q : ℕ → Bool) (start : ℕ) (r : Option ℕ) → ((k : ℕ) → p k ≡ q k) → Next p start r → Next q start r
+next_same p q start None same h = λ k s l. sym (same k) ∙ h k s l
+next_same p q start (Some r) same h = record {
+  reach = h.reach;
+  bound = h.bound;
+  here = sym (same r) ∙ h.here;
+  passed = λ k s l. sym (same k) ∙ h.passed k s l;
+}
 
-  both_in : count_trailing_zeros 64 both < 64
-  both_in = elim (cases_lt (count_trailing_zeros 64 both) 64) [
+pub no_mask : (p : ℕ → Bool) (j : ℕ) → differs p 0 j ≡ p j
+no_mask p j = rw (bit_none (j % 64)) (table (p j))
+  where
+    table : (b : Bool) → cond b true false ≡ b
+    table true = refl
+    table false = refl
+
+pub full_mask : (p : ℕ → Bool) (j : ℕ) → differs p 18446744073709551615 j ≡ not (p j)
+full_mask p j = rw (bit_mask 64 (j % 64) ∙ lt-ltb (j % 64) 64 (omega arith)) (table (p j))
+  where
+    table : (b : Bool) → cond b false true ≡ not b
+    table true = refl
+    table false = refl
+
+-- the first number in both of two sets
+pub lowest_common : (p q both : ℕ → Bool) (r : Option ℕ) → ((k : ℕ) → both k ≡ (p k && q k)) → ((k : ℕ) → 384 ≤ k → p k ≡ false) → Next both 0 r
+    → MatchOption r (Meet p q → ⊥) (Lowest p q)
+lowest_common p q both None e past h = λ (k, a, b). elim (cases_lt k 384) [
+  | inl l ↦ both_ways _ (h k (omega arith) l) (e k ∙ and_from _ _ a b)
+  | inr l ↦ both_ways _ (past k l) a
+]
+lowest_common p q both (Some r) e past h =
+    let t = and_parts (p r) (q r) (sym (e r) ∙ h.here) in
+    (t.0, t.1, λ j l (a, b). both_ways _ (h.passed j (omega arith) l) (e j ∙ and_from _ _ a b))
+
+pub meet_by_common : (p q : ℕ → Bool) (r : Option ℕ) → MatchOption r (Meet p q → ⊥) (Lowest p q) → Decides (is_some r) (Meet p q)
+meet_by_common p q None h = (λ e. absurd (false≢true e), λ m. absurd (h m))
+meet_by_common p q (Some r) h = (λ _. (r, h.0, h.1), λ _. refl)
+
+-- a set has no number from n on exactly when there is no next one
+pub below_by_next : (p : ℕ → Bool) (n : ℕ) (r : Option ℕ) (b : Bool) → is_some r ≡ not b → ((k : ℕ) → 384 ≤ k → p k ≡ false) → Next p n r → Decides b ((k : ℕ) → p k ≡ true → k < n)
+below_by_next p n None false e past h = absurd (false≢true e)
+below_by_next p n None true e past h = (
+  λ _ k t. elim (cases_lt k n) [
     | inl l ↦ l
-    | inr l ↦ absurd (both_ways _ (bit_past both 64 (count_trailing_zeros 64 both) low_both l) both_set)
-  ]
-
-  not_before : (j : ℕ) → j < i * 64 + count_trailing_zeros 64 both → bit (bit_and (get_or xs (j / 64) 0) (get_or ys (j / 64) 0)) (j % 64) ≡ false
-  not_before j l = elim (cases_lt (j / 64) i) [
-    | inl h ↦ ap (λ w. bit w (j % 64)) (before (j / 64) h) ∙ bit_none (j % 64)
-    | inr h ↦ let b = both_in in let e : j / 64 ≡ i = omega arith in rw e (lowest_below 64 both (j % 64) (omega arith))
-  ]
-
-  pub lowest_common : Lowest (mem xs) (mem ys) (i * 64 + count_trailing_zeros 64 both)
-  unfolding mem
-  lowest_common =
-      let b = both_in in
-      let q : (i * 64 + count_trailing_zeros 64 both) / 64 ≡ i = omega arith in
-      let r : (i * 64 + count_trailing_zeros 64 both) % 64 ≡ count_trailing_zeros 64 both = omega arith in
-      let p = and_parts (bit (get_or xs i 0) (count_trailing_zeros 64 both)) (bit (get_or ys i 0) (count_trailing_zeros 64 both)) (sym (bit_and_lem (get_or xs i 0) (get_or ys i 0) (count_trailing_zeros 64 both)) ∙ both_set) in
-      (rw (q, r) p.0, rw (q, r) p.1, λ j l t. both_ways _ (not_before j l) (bit_and_lem _ _ (j % 64) ∙ and_from _ _ t.0 t.1))
+    | inr l ↦ elim (cases_lt k 384) [ inl m ↦ absurd (both_ways _ (h k l m) t) | inr m ↦ absurd (both_ways _ (past k m) t) ]
+  ],
+  λ _. refl,
+)
+below_by_next p n (Some r) true e past h = absurd (false≢true (sym e))
+below_by_next p n (Some r) false e past h = (λ e. absurd (false≢true e), λ b. let l = b r h.here in let m = h.reach in absurd (omega arith))

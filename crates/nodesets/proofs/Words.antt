@@ -1,13 +1,13 @@
 -- The members of a set of six words.
 -- Assumes nothing.
-use Rattle.std.proofs.Common.{◌≡◌, ℕ, zero, suc, ◌+◌, ◌*◌, ◌/◌, ◌%◌, ◌^◌, ◌<◌, ◌≤◌, Bool, true, false, not, ◌&&◌, ◌||◌, eqb, ltb, ◌≢◌, List, [], ◌∷◌, length, get_or, set, sym, refl, ap, ◌∙◌, inl, inr, arith}
-use lib.Bits.{bit_and, bit_or, bit_xor}
-use Rattle.std.proofs.lemmas.Nat.{and_le_l}
-use Rattle.std.proofs.lemmas.Bool.{cases_eq, cases_lt, and_parts, and_from, both_ways, eq-eqb, ne_eqb, lt-ltb, le-ltb}
+use Rattle.std.proofs.Common.{◌≡◌, ℕ, zero, suc, ◌-◌, ◌*◌, ◌/◌, ◌%◌, ◌^◌, ◌<◌, ◌≤◌, Bool, true, false, not, ◌&&◌, ◌||◌, eqb, ltb, ◌≢◌, List, [], ◌∷◌, length, get_or, set, sym, refl, ap, ◌∙◌, inl, inr, arith}
+use lib.Bits.{bit_and, bit_or}
+use Rattle.std.proofs.lemmas.Bool.{cases_eq, cases_lt, eq-eqb, ne_eqb, lt-ltb, le-ltb}
 use Rattle.std.proofs.lemmas.List.{get_or-set_same, get_or-set_other, get_or_past}
+use Rattle.std.proofs.lemmas.Nat.{mod_below}
 use Rattle.bits.specs.Bits.{bit}
-use Rattle.bits.proofs.Words.{bit_or_lem, bit_and_lem, bit_less, bit_none, bit_one, some_bit, one_shl_64}
-use Rattle.nodesets.specs.Sets.{mem, Meet}
+use Rattle.bits.proofs.Words.{bit_or_lem, bit_and_lem, bit_none, bit_not, bit_one, one_shl_64}
+use Rattle.nodesets.specs.Sets.{mem}
 
 -- a number by its word and its bit
 same_word : (j k : ℕ) → j / 64 ≡ k / 64 → eqb (j % 64) (k % 64) ≡ eqb j k
@@ -22,6 +22,10 @@ or_swap false false = refl
 and_true : (b : Bool) → (b && true) ≡ b
 and_true true = refl
 and_true false = refl
+
+-- a word less the bits of another
+pub bit_without : (a b j : ℕ) → b < 2 ^ 64 → j < 64 → bit (bit_and a (18446744073709551615 - b)) j ≡ (bit a j && not (bit b j))
+bit_without a b j f l = bit_and_lem a (18446744073709551615 - b) j ∙ ap (λ x. bit a j && x) (bit_not b 64 j f ∙ rw (lt-ltb j 64 l))
 
 module _ (ws : List ℕ) (k : ℕ) (six : length ws ≡ 6) (small : k < 384) where
   in_range : k / 64 < length ws
@@ -48,27 +52,27 @@ module _ (ws : List ℕ) (k : ℕ) (six : length ws ≡ 6) (small : k < 384) whe
       away : j / 64 ≢ k / 64 → bit (get_or (set ws (k / 64) new) (j / 64) 0) (j % 64) ≡ ((eqb j k && ltb j 384) || bit (get_or ws (j / 64) 0) (j % 64))
       away n = rw (get_or-set_other ws (k / 64) (j / 64) new 0 n, ne_eqb j k (λ e. n (ap (λ x. x / 64) e)))
 
-  pub mem_remove : (j : ℕ) → mem (set ws (k / 64) (bit_xor (get_or ws (k / 64) 0) (bit_and (get_or ws (k / 64) 0) ((1 * 2 ^ (k % 64)) % 18446744073709551616)))) j ≡ (mem ws j && not (eqb j k))
+  pub mem_remove : (j : ℕ) → mem (set ws (k / 64) (bit_and (get_or ws (k / 64) 0) (18446744073709551615 - (1 * 2 ^ (k % 64)) % 18446744073709551616))) j ≡ (mem ws j && not (eqb j k))
   unfolding mem
   mem_remove j = elim (cases_eq (j / 64) (k / 64)) [ inl e ↦ here e | inr n ↦ away n ]
     where
       new : ℕ
-      new = bit_xor (get_or ws (k / 64) 0) (bit_and (get_or ws (k / 64) 0) ((1 * 2 ^ (k % 64)) % 18446744073709551616))
+      new = bit_and (get_or ws (k / 64) 0) (18446744073709551615 - (1 * 2 ^ (k % 64)) % 18446744073709551616)
 
       here : j / 64 ≡ k / 64 → bit (get_or (set ws (k / 64) new) (j / 64) 0) (j % 64) ≡ (bit (get_or ws (j / 64) 0) (j % 64) && not (eqb j k))
       here e =
-          rw (e, get_or-set_same ws (k / 64) new 0 in_range, flag, bit_less (get_or ws (k / 64) 0) (2 ^ (k % 64)) (j % 64), bit_one (k % 64) (j % 64), same_word j k e)
+          rw (e, get_or-set_same ws (k / 64) new 0 in_range, bit_without (get_or ws (k / 64) 0) ((1 * 2 ^ (k % 64)) % 18446744073709551616) (j % 64) (mod_below (1 * 2 ^ (k % 64)) 18446744073709551616 (omega arith)) (omega arith), flag, bit_one (k % 64) (j % 64), same_word j k e)
 
       away : j / 64 ≢ k / 64 → bit (get_or (set ws (k / 64) new) (j / 64) 0) (j % 64) ≡ (bit (get_or ws (j / 64) 0) (j % 64) && not (eqb j k))
       away n = rw (get_or-set_other ws (k / 64) (j / 64) new 0 n, ne_eqb j k (λ e. n (ap (λ x. x / 64) e))) (sym (and_true (bit (get_or ws (j / 64) 0) (j % 64))))
 
 -- word by word
-pub mem_each : (f : ℕ → ℕ → ℕ) (g : Bool → Bool → Bool) → ((a b j : ℕ) → bit (f a b) j ≡ g (bit a j) (bit b j)) → g false false ≡ false
-    → (xs ys zs : List ℕ) → length xs ≡ 6 → length ys ≡ 6 → length zs ≡ 6 → ((i : ℕ) → i < 6 → get_or zs i 0 ≡ f (get_or xs i 0) (get_or ys i 0))
+pub mem_each : (g : Bool → Bool → Bool) → g false false ≡ false → (xs ys zs : List ℕ) → length xs ≡ 6 → length ys ≡ 6 → length zs ≡ 6
+    → ((i j : ℕ) → i < 6 → j < 64 → bit (get_or zs i 0) j ≡ g (bit (get_or xs i 0) j) (bit (get_or ys i 0) j))
     → (j : ℕ) → mem zs j ≡ g (mem xs j) (mem ys j)
 unfolding mem
-mem_each f g law none xs ys zs p q r e j = elim (cases_lt (j / 64) 6) [
-  | inl h ↦ rw (e (j / 64) h) (law (get_or xs (j / 64) 0) (get_or ys (j / 64) 0) (j % 64))
+mem_each g none xs ys zs p q r e j = elim (cases_lt (j / 64) 6) [
+  | inl h ↦ e (j / 64) (j % 64) h (omega arith)
   | inr h ↦ rw (get_or_past xs (j / 64) 0 (omega arith), get_or_past ys (j / 64) 0 (omega arith), get_or_past zs (j / 64) 0 (omega arith), bit_none (j % 64)) (sym none)
 ]
 
@@ -101,35 +105,3 @@ mem_zeros j = rw (at (j / 64)) (bit_none (j % 64))
     at (suc (suc (suc (suc zero)))) = refl
     at (suc (suc (suc (suc (suc zero))))) = refl
     at (suc (suc (suc (suc (suc (suc i)))))) = refl
-
--- a loop that writes f of the old word and the other's: its step
-module _ (f : ℕ → ℕ → ℕ) (old ys cur : List ℕ) (i : ℕ) (in_cur : i < length cur)
-    (done : (k : ℕ) → k < i → get_or cur k 0 ≡ f (get_or old k 0) (get_or ys k 0)) (left : (k : ℕ) → i ≤ k → get_or cur k 0 ≡ get_or old k 0) where
-  pub words_done : (k : ℕ) → k < i + 1 → get_or (set cur i (f (get_or cur i 0) (get_or ys i 0))) k 0 ≡ f (get_or old k 0) (get_or ys k 0)
-  words_done k h = elim (cases_eq k i) [
-    | inl e ↦ rw (e, get_or-set_same cur i (f (get_or cur i 0) (get_or ys i 0)) 0 in_cur, left i (omega arith))
-    | inr n ↦ rw (get_or-set_other cur i k (f (get_or cur i 0) (get_or ys i 0)) 0 n) (done k (omega arith))
-  ]
-
-  pub words_left : (k : ℕ) → i + 1 ≤ k → get_or (set cur i (f (get_or cur i 0) (get_or ys i 0))) k 0 ≡ get_or old k 0
-  words_left k h = rw (get_or-set_other cur i k (f (get_or cur i 0) (get_or ys i 0)) 0 (λ e. omega arith)) (left k (omega arith))
-
--- two words with a bit in common
-bits_zero : (a b : ℕ) → bit_and a b ≡ 0 → (j : ℕ) → (bit a j && bit b j) ≡ false
-bits_zero a b e j = sym (bit_and_lem a b j) ∙ ap (λ w. bit w j) e ∙ bit_none j
-
-pub meet_word : (xs ys : List ℕ) (i : ℕ) → i < 6 → get_or xs i 0 < 2 ^ 64 → ¬ (bit_and (get_or xs i 0) (get_or ys i 0) ≡ 0) → Meet (mem xs) (mem ys)
-unfolding mem
-meet_word xs ys i h f n =
-    let (j, k, b) = some_bit 64 (bit_and (get_or xs i 0) (get_or ys i 0)) (omega (arith, and_le_l (get_or xs i 0) (get_or ys i 0))) n in
-    let both = and_parts (bit (get_or xs i 0) j) (bit (get_or ys i 0) j) (sym (bit_and_lem (get_or xs i 0) (get_or ys i 0) j) ∙ b) in
-    let q : (i * 64 + j) / 64 ≡ i = omega arith in
-    let r : (i * 64 + j) % 64 ≡ j = omega arith in
-    (i * 64 + j, rw (q, r) both.0, rw (q, r) both.1)
-
-pub no_meet : (xs ys : List ℕ) → length xs ≡ 6 → ((k : ℕ) → k < 6 → bit_and (get_or xs k 0) (get_or ys k 0) ≡ 0) → Meet (mem xs) (mem ys) → ⊥
-unfolding mem
-no_meet xs ys six e (k, a, b) = elim (cases_lt (k / 64) 6) [
-  | inl h ↦ both_ways (bit (get_or xs (k / 64) 0) (k % 64) && bit (get_or ys (k / 64) 0) (k % 64)) (bits_zero _ _ (e (k / 64) h) (k % 64)) (and_from _ _ a b)
-  | inr h ↦ both_ways _ (mem_past xs k six (omega arith)) a
-]

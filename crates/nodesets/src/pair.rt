@@ -3,6 +3,8 @@ ghost use Rattle.std.specs.Prelude.{◌≡◌, ℕ, false, ◌&&◌, ◌||◌, D
 ghost use Rattle.games.specs.Sides.{other};
 ghost use Rattle.games.specs.declared.side.Side.{Side};
 ghost use Rattle.nodesets.specs.Sets.{has};
+ghost use Rattle.std.specs.Borrow.{sem};
+ghost use Rattle.nodesets.specs.Lending.{LendsSide};
 ghost use Rattle.nodesets.specs.Pairs.{Within, by};
 
 use crate::nodeset::NodeSet;
@@ -34,15 +36,22 @@ impl Pair {
         }
     }
 
+    fn of_mut(&mut self, side: Side) -> &mut NodeSet
+        ensures* lends { sem 𝓛 (LendsSide self.entry side result) }
+        ensures value { (k : ℕ) → has result.now k ≡ by self.old side k }
+    {
+        match side {
+            Side::Left => &mut self.left,
+            Side::Right => &mut self.right,
+        }
+    }
+
     // The node goes into the set of the side; a number from 384 on cannot.
     pub fn insert(&mut self, side: Side, node: usize)
         ensures own { (k : ℕ) → by self.new side k ≡ ((k == node && nat_lt k 384) || by self.old side k) }
         ensures theirs { (k : ℕ) → by self.new (other side) k ≡ by self.old (other side) k }
     {
-        match side {
-            Side::Left => self.left.insert(node),
-            Side::Right => self.right.insert(node),
-        }
+        self.of_mut(side).insert(node);
     }
 
     // The pair with another set for the side.
@@ -50,16 +59,9 @@ impl Pair {
         ensures own { (k : ℕ) → by result side k ≡ has set.now k }
         ensures theirs { (k : ℕ) → by result (other side) k ≡ by self.now (other side) k }
     {
-        match side {
-            Side::Left => Pair {
-                left: *set,
-                right: self.right,
-            },
-            Side::Right => Pair {
-                left: self.left,
-                right: *set,
-            },
-        }
+        let mut pair = *self;
+        *pair.of_mut(side) = *set;
+        pair
     }
 
     // Whether every node of the pair is below n.

@@ -4,14 +4,16 @@ use Rattle.std.proofs.Common.{◌≡◌, ℕ, zero, suc, ◌+◌, ◌-◌, ◌<�
 use Rattle.std.specs.Ordering.{ordering_then, ordering_reverse, is_lt, nat_cmp}
 use Rattle.std.specs.Cmp.{IsTotalOrder, nat_cmp_total, then_total, on_total}
 use Rattle.std.specs.List.{insert}
-use Rattle.std.proofs.lemmas.List.{get_or_append_left, get_or_push, length_push, get_or_read}
+use Rattle.std.specs.List.Sorted.{IsPartitionedBy, IsPartitionPoint}
+use Rattle.std.proofs.lemmas.List.{get_or_append_left, get_or_push, length_push, get_or_read, get_or_default}
 use Rattle.std.proofs.lemmas.List.Edits.{length-insert, get_or-insert_below, get_or-insert_at, get_or-insert_above}
-use Rattle.std.proofs.lemmas.Bool.{cases_lt, cases_eq, cases_order, eqb-true, eq-eqb, or_cases, or_left, or_right, true≢false}
+use Rattle.std.specs.Bool.{then_some}
+use Rattle.std.proofs.lemmas.Bool.{cases_Bool, cases_lt, cases_eq, cases_order, eqb-true, eq-eqb, or_cases, or_left, or_right, true≢false}
 use Rattle.std.proofs.lemmas.Bool.Decides.{not_from_Decides}
 use Rattle.games.specs.Numbered.{Lists}
 use Rattle.stores.specs.Rows.{Rows, row_at, bare, same_lists, lowest}
-use Rattle.stores.specs.Order.{number_order, list_order, row_order}
-use Rattle.stores.proofs.Order.{list_order_is, not_less, cases_ordering, then_equal, number_equal, number_less, row_equal, row_itself}
+use Rattle.stores.specs.Order.{number_order, row_order}
+use Rattle.stores.proofs.Order.{not_less, cases_ordering, then_equal, number_equal, number_less, row_equal, row_itself}
 use Rattle.ordered_store.specs.Rising.{entry_order, holds, HaveRows, HoldsAll, Rises, ComesFirst, Belongs}
 use Rattle.stores.proofs.Appends.{Taken}
 use Rattle.stores.proofs.Lowest.{NoneAt, lowest_is, same_decides}
@@ -30,19 +32,11 @@ order = (λ x y. ordering_then (ordering_then ((slice_cmp nat_cmp) x.0.0 y.0.0) 
 order_total : IsTotalOrder order
 order_total = then_total (then_total (on_total (λ (p : Key). p.0.0) nat_list_cmp_total) (on_total (λ (p : Key). p.0.1) nat_list_cmp_total)) (on_total (λ (p : Key). p.1) nat_cmp_total)
 
-entry_order_is : (a : Lists) (m : ℕ) (b : Lists) (n : ℕ) → entry_order a m b n ≡ order (key a m) (key b n)
-entry_order_is a m b n =
-    ap (λ t. ordering_then (ordering_then t (list_order a.right b.right)) (number_order m n)) (list_order_is a.left b.left)
-    ∙ ap (λ t. ordering_then (ordering_then (slice_cmp nat_cmp a.left b.left) t) (number_order m n)) (list_order_is a.right b.right)
-
 pub entry_flip : (a : Lists) (m : ℕ) (b : Lists) (n : ℕ) → entry_order a m b n ≡ ordering_reverse (entry_order b n a m)
-entry_flip a m b n =
-    entry_order_is a m b n ∙ order_total.antisymm (key a m) (key b n) ∙ ap ordering_reverse (sym (entry_order_is b n a m))
+entry_flip a m b n = order_total.antisymm (key a m) (key b n)
 
 pub entry_trans : (a : Lists) (m : ℕ) (b : Lists) (n : ℕ) (c : Lists) (k : ℕ) → entry_order a m b n ≡ Less → entry_order b n c k ≡ Less → entry_order a m c k ≡ Less
-entry_trans a m b n c k p q =
-    entry_order_is a m c k
-    ∙ order_total.trans (key a m) (key b n) (key c k) (sym (entry_order_is a m b n) ∙ p) (sym (entry_order_is b n c k) ∙ q)
+entry_trans a m b n c k = order_total.trans (key a m) (key b n) (key c k)
 
 -- of the same row, the lower number comes first
 same_row_less : (a b : Lists) (m n : ℕ) → a ≡ b → entry_order a m b n ≡ Less → m < n
@@ -81,13 +75,6 @@ rises_all rows xs up j k h l =
 
 -- ---- where a row belongs
 
--- a binary search: what is below `low` comes first, and what is from `high` on does not
-pub record Halving (rows : Rows) (xs : List ℕ) (l : Lists) (n low high : ℕ) : Type 0 where
-  pub ordered : low ≤ high
-  pub within : high ≤ length xs
-  pub below : (k : ℕ) → k < low → ComesFirst rows xs l n k
-  pub above : (k : ℕ) → high ≤ k → k < length xs → ComesFirst rows xs l n k → ⊥
-
 module _ (rows : Rows) (xs : List ℕ) (up : Rises rows xs) (l : Lists) (n : ℕ) where
   abbrev First : ℕ → Type 0
   First = ComesFirst rows xs l n
@@ -102,35 +89,22 @@ module _ (rows : Rows) (xs : List ℕ) (up : Rises rows xs) (l : Lists) (n : ℕ
           let jk : j < k = omega arith in
           entry_trans (row_at rows (get_or xs j 0)) (get_or xs j 0) (row_at rows (get_or xs k 0)) (get_or xs k 0) l n (rises_all rows xs up j k jk lt) f
 
-  pub halving_start : (low high : ℕ) → low ≡ 0 → high ≡ length xs → Halving rows xs l n low high
-  halving_start low high e f = record { ordered = omega arith; within = omega arith; below = λ k h. absurd (omega arith); above = λ k h g _. omega arith }
+  -- whether a number of the list comes first
+  abbrev pub comes_first : ℕ → Bool
+  comes_first x = is_lt (entry_order (row_at rows x) x l n)
 
-  -- the entry in the middle comes first, or does not
-  module _ (low high middle x : ℕ) (w : Halving rows xs l n low high) (a : low ≤ middle) (b : middle < high) (read : x ≡ get_or xs middle 0) (yes_first : Bool) (told : yes_first ≡ is_lt (entry_order (row_at rows x) x l n)) where
-    told_first : yes_first ≡ true → First middle
-    told_first t = less_from (entry_order (row_at rows (get_or xs middle 0)) (get_or xs middle 0) l n) (ap (λ y. is_lt (entry_order (row_at rows y) y l n)) (sym read) ∙ sym told ∙ t)
+  -- so none that comes first stands behind one that does not
+  pub parted : IsPartitionedBy comes_first xs
+  parted i j d h lt t =
+      let f : First j = less_from _ (ap comes_first (get_or_default xs j 0 d lt) ∙ t) in
+      ap comes_first (get_or_default xs i d 0 (omega arith)) ∙ ap is_lt (firsts i j h lt f)
 
-    told_not : yes_first ≡ false → First middle → ⊥
-    told_not t f = true≢false (sym (ap is_lt f) ∙ ap (λ y. is_lt (entry_order (row_at rows y) y l n)) (sym read) ∙ sym told ∙ t)
-
-    pub halving_up : yes_first ≡ true → Halving rows xs l n (middle + 1) high
-    halving_up t = record {
-      ordered = omega arith;
-      within = w.within;
-      below = λ k h. firsts k middle (omega arith) (omega (arith, w.within)) (told_first t);
-      above = w.above;
-    }
-
-    pub halving_down : yes_first ≡ false → Halving rows xs l n low middle
-    halving_down t = record {
-      ordered = a;
-      within = omega (arith, w.within);
-      below = w.below;
-      above = λ k h g f. told_not t (firsts middle k h g f);
-    }
-
-  pub halving_ends : (low high : ℕ) → Halving rows xs l n low high → high ≤ low → Belongs rows xs l n low
-  halving_ends low high w h = record { within = omega (arith, w.ordered, w.within); first = w.below; then = λ k g. w.above k (omega (arith, w.ordered)) }
+  pub belongs : (place : ℕ) → place ≤ length xs → IsPartitionPoint (λ x. comes_first x ≡ true) (λ x. comes_first x ≡ false) xs place → Belongs rows xs l n place
+  belongs place h p = record {
+    within = h;
+    first = λ k lt. less_from _ (p.0 k 0 (omega arith) lt);
+    then = λ k ge lt f. true≢false (sym (ap is_lt f) ∙ p.1 k 0 ge lt);
+  }
 
 -- a number that was read from the list has a row
 pub number_has_row : (rows : Rows) (xs : List ℕ) → HaveRows rows xs → (i x : ℕ) → i < length xs → x ≡ get_or xs i x → x < length rows
@@ -215,17 +189,12 @@ module _ (rows : Rows) (xs : List ℕ) (all : HoldsAll rows xs) (up : Rises rows
               (inr (ap (λ o. ordering_then o (number_order (get_or xs place 0) (get_or xs k 0))) g))
 
 -- the same of what the code holds: the number x at the place, and whether its row has the lists l
-module _ (rows : Rows) (xs : List ℕ) (have : HaveRows rows xs) (all : HoldsAll rows xs) (up : Rises rows xs) (l : Lists) (place : ℕ) (b : Belongs rows xs l 0 place)
-    (x : ℕ) (within : place < length xs) (read : x ≡ get_or xs place x) (same : Bool) (told : same ≡ same_lists (row_at rows x) l) where
-  pub finds_same : same ≡ true → Some x ≡ lowest rows l
-  finds_same t =
-      finds_here rows xs all up l place b x within (get_or_read xs place x within read 0) (number_has_row rows xs have place x within read)
-      ((same_decides (row_at rows x) l).0 (sym told ∙ t))
-
-  pub finds_other : same ≡ false → None ≡ lowest rows l
-  finds_other t =
-      finds_none rows xs all up l place b x within (get_or_read xs place x within read 0)
-      (not_from_Decides (same_lists (row_at rows x) l) (same_decides (row_at rows x) l) (sym told ∙ t))
+pub finds : (rows : Rows) (xs : List ℕ) → HaveRows rows xs → HoldsAll rows xs → Rises rows xs → (l : Lists) (place : ℕ) → Belongs rows xs l 0 place →
+    (x : ℕ) → place < length xs → x ≡ get_or xs place x → then_some (same_lists (row_at rows x) l) x ≡ lowest rows l
+finds rows xs have all up l place b x within read = elim (cases_Bool (same_lists (row_at rows x) l)) [
+  | inl t ↦ ap (λ s. then_some s x) t ∙ finds_here rows xs all up l place b x within (get_or_read xs place x within read 0) (number_has_row rows xs have place x within read) ((same_decides (row_at rows x) l).0 t)
+  | inr f ↦ ap (λ s. then_some s x) f ∙ finds_none rows xs all up l place b x within (get_or_read xs place x within read 0) (not_from_Decides (same_lists (row_at rows x) l) (same_decides (row_at rows x) l) f)
+]
 
 -- ---- one row more
 

@@ -1,22 +1,30 @@
 -- The check of a text goes on byte by byte.
 -- Assumes nothing.
-use Rattle.std.proofs.Common.{◌≡◌, ℕ, ◌+◌, ◌<◌, ◌≤◌, true, false, List, [], ◌∷◌, ◌++◌, length, get_or, Some, None, sym, refl, ap, ◌∙◌, subst, arith}
+use Rattle.std.proofs.Common.{◌≡◌, ℕ, ◌+◌, ◌<◌, ◌≤◌, true, false, List, [], ◌∷◌, ◌++◌, length, get_or, Some, None, Ok, Err, Result, sym, refl, ap, ◌∙◌, subst, arith}
 use mathlib.Core.Option.{none}
 use native.Mathlib.Decide.{ℕ_discrete}
 use Rattle.std.proofs.lemmas.Bool.{ne_eqb}
+use Rattle.std.proofs.lemmas.List.{length-reverse}
 use Rattle.games.specs.Form.{Form}
 use Rattle.games.specs.Text.{open_mark, bar, close_mark, comma, byte}
 use Rattle.games.specs.Text
 use Rattle.games.proofs.Reader.{State, wants, fresh, after, done, wrong, next, result}
 use Rattle.calls.specs.Texts.{Written, Fault}
-use Rattle.calls.proofs.Bracketed.{brackets}
 use Rattle.calls.proofs.Scanned.{Scanned, scan_begins, scan_no_mark, scan_wrong, scan_deep, scan_on, scan_early, scan_done, at_more}
 use Rattle.calls.proofs.Texts.{Alive, at}
+use Rattle.calls.specs.declared.fault.TextFault.{TextFault}
+use Rattle.calls.specs.declared.fault.TextFault.TheVariants.{WrongByte}
 use Rattle.reading.specs.declared.mark.Mark.{Mark}
 use Rattle.reading.specs.declared.mark.Mark.TheVariants.{Open, Bar, Close, Comma}
+use Rattle.reading.specs.declared.mark.NoMark.{NoMark}
+use Rattle.reading.specs.declared.reader.Misstep.{Misstep}
+use Rattle.reading.specs.declared.reader.Misstep.TheVariants.{Wrong, Deep}
 use Rattle.reading.specs.declared.reader.Reader.{Reader}
-use Rattle.reading.specs.Marks.{meant, mark_of}
-use Rattle.reading.specs.Standing.{Stands, is_done}
+use Rattle.calls.specs.Faults.{number_of, place_of}
+use Rattle.reading.specs.Held.{stack_of}
+use Rattle.reading.specs.Marks.{Marks, meant, mark_of}
+use Rattle.reading.specs.Standing.{Stands, Stepped, fault_at, is_done}
+use Rattle.reading.specs.Verdict.{Verdict}
 use Rattle.reading.proofs.Marked.{depth_is}
 
 -- what `mark_of` says
@@ -52,6 +60,27 @@ stands_alive r (after b bs) s = tt
 stands_alive r (done g) s = tt
 stands_alive r wrong s = let e = s.at_stage in let z : ◌≡◌ {A = ℕ} 0 1 = cc in absurd (omega arith)
 
+-- what becomes of the conversion of a byte at a place, and of a step
+abbrev pub marked : ℕ → Result Mark NoMark → Result Mark TextFault
+marked i (Ok m) = Ok m
+marked i (Err n) = Err (WrongByte i)
+
+abbrev pub stepped : ℕ → Result (Unit {0}) Misstep → Result (Unit {0}) TextFault
+stepped i (Ok u) = Ok u
+stepped i (Err m) = Err (fault_at m i)
+
+pub marked_ok : (b i : ℕ) (r : Result Mark NoMark) (m : Mark) → Ok m ≡ marked i r → Marks b r → Some m ≡ mark_of b
+marked_ok b i (Ok k) m e h = let same : m ≡ k = cc in subst (λ x. Some x ≡ mark_of b) (sym same) h
+marked_ok b i (Err n) m e h = let z : ◌≡◌ {A = ℕ} 0 1 = cc in absurd (omega arith)
+
+marked_err : (b i : ℕ) (r : Result Mark NoMark) (f : TextFault) → Err f ≡ marked i r → Marks b r → (None ≡ mark_of b) × (f ≡ WrongByte i)
+marked_err b i (Ok k) f e h = let z : ◌≡◌ {A = ℕ} 0 1 = cc in absurd (omega arith)
+marked_err b i (Err n) f e h = (h, cc)
+
+-- a text with a fault
+pub faulty : (t : List ℕ) (r : Result (Unit {0}) TextFault) (f : TextFault) → r ≡ Err f → Fault t (number_of f) (place_of f) → Verdict t r
+faulty t r f e x = subst (λ v. Verdict t v) (sym e) x
+
 -- the reader has taken the first i bytes
 pub record Taken (t : List ℕ) (i : ℕ) (r : Reader) : Type 0 where
   pub marks : List Text.Mark
@@ -63,27 +92,36 @@ takes_none t r s = record { marks = []; scanned = scan_begins t; stands = s }
 
 module _ (t : List ℕ) (i : ℕ) (r : Reader) (x : Taken t i r) where
   module _ (inside : i < length t) where
-    pub takes_no_mark : None ≡ mark_of (get_or t i 0) → Fault t 6 i
-    takes_no_mark e = scan_no_mark t i x.marks inside x.scanned (no_mark_is (get_or t i 0) e)
+    pub takes_no_mark : (r : Result Mark NoMark) (f : TextFault) → Err f ≡ marked i r → Marks (get_or t i 0) r → Fault t (number_of f) (place_of f)
+    takes_no_mark r f e h =
+        let (none_is, is) = marked_err (get_or t i 0) i r f e h in
+        subst (λ u. Fault t (number_of u) (place_of u)) (sym is) (scan_no_mark t i x.marks inside x.scanned (no_mark_is (get_or t i 0) none_is))
 
     module _ (m : Mark) (e : Some m ≡ mark_of (get_or t i 0)) where
       abbrev q : State
       q = next (at x.marks) (meant m)
 
-      pub takes_wrong : next (at x.marks) (meant m) ≡ wrong → Fault t 6 i
-      takes_wrong w = scan_wrong t i x.marks inside x.scanned (meant m) (mark_is (get_or t i 0) m e) w
+      misstep : (s : Reader) (k : Misstep) → Stepped s (next (at x.marks) (meant m)) (Err k) → Fault t (number_of (fault_at k i)) (place_of (fault_at k i))
+      misstep s Wrong w = scan_wrong t i x.marks inside x.scanned (meant m) (mark_is (get_or t i 0) m e) w
+      misstep s Deep w = scan_deep t i x.marks inside x.scanned (meant m) (mark_is (get_or t i 0) m e) w.0 w.1
 
-      pub takes_deep : Alive (next (at x.marks) (meant m)) → length (brackets (next (at x.marks) (meant m))) ≡ 97 → Fault t 8 i
-      takes_deep a k = scan_deep t i x.marks inside x.scanned (meant m) (mark_is (get_or t i 0) m e) a k
+      pub takes_not : (s : Reader) (r : Result (Unit {0}) Misstep) (f : TextFault) → Err f ≡ stepped i r → Stepped s (next (at x.marks) (meant m)) r → Fault t (number_of f) (place_of f)
+      takes_not s (Ok u) f h w = let z : ◌≡◌ {A = ℕ} 0 1 = cc in absurd (omega arith)
+      takes_not s (Err k) f h w = let is : f ≡ fault_at k i = cc in subst (λ u. Fault t (number_of u) (place_of u)) (sym is) (misstep s k w)
 
-      pub takes_on : (s : Reader) → Stands s (next (at x.marks) (meant m)) → Taken t (i + 1) s
-      takes_on s h =
-          let d = depth_is s.stage s.sides s.depth (let f = s.few in let r = s.room in omega arith) q h in
+      goes_on : (s : Reader) → Stands s (next (at x.marks) (meant m)) → Taken t (i + 1) s
+      goes_on s h =
+          let d = depth_is s.stage (stack_of s.frames) q h in
+          let l = length-reverse s.frames.items.items in
           record {
             marks = x.marks ++ meant m ∷ [];
-            scanned = scan_on t i x.marks inside x.scanned (meant m) (mark_is (get_or t i 0) m e) (stands_alive s q h) (let f = s.few in omega arith);
+            scanned = scan_on t i x.marks inside x.scanned (meant m) (mark_is (get_or t i 0) m e) (stands_alive s q h) (let f = s.frames.few in omega arith);
             stands = subst (Stands s) (sym (at_more x.marks (meant m))) h;
           }
+
+      pub takes_on : (s : Reader) (r : Result (Unit {0}) Misstep) (u : Unit {0}) → Ok u ≡ stepped i r → Stepped s (next (at x.marks) (meant m)) r → Taken t (i + 1) s
+      takes_on s (Ok v) u h w = goes_on s w
+      takes_on s (Err k) u h w = let z : ◌≡◌ {A = ℕ} 0 1 = cc in absurd (omega arith)
 
   module _ (over : length t ≤ i) where
     not_done : (p : State) → is_done p ≡ false → result p ≡ none

@@ -4,7 +4,7 @@ pub mod Checked
 pub mod Upto
 pub mod InSets
 pub mod Holding
-pub mod Framed
-pub mod Turned
+pub mod Walking
+pub mod Reading
 pub mod Cut
 pub mod Looked

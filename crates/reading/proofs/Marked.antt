@@ -1,6 +1,6 @@
 -- The reader of the code takes a mark as the machine does.
 -- Assumes nothing.
-use Rattle.std.proofs.Common.{◌≡◌, ℕ, ◌+◌, ◌-◌, ◌<◌, ◌≤◌, ◌⊎◌, List, [], ◌∷◌, map, length, get_or, set, Some, sym, refl, ap, ◌∙◌, inl, inr, arith}
+use Rattle.std.proofs.Common.{◌≡◌, ℕ, ◌<◌, ◌⊎◌, List, [], ◌∷◌, map, length, Some, Option, sym, refl, ap, ◌∙◌, ap₂, inl, inr, arith}
 use Rattle.std.proofs.lemmas.List.{length-map}
 use Rattle.games.specs.Form.{Form, form}
 use Rattle.games.specs.declared.side.Side.{Side}
@@ -9,32 +9,31 @@ use Rattle.games.specs.Text.{open_mark, bar, close_mark}
 use Rattle.games.proofs.Reader.{Bracket, in_left, in_right, State, wants, fresh, after, done, wrong, put, finish, next}
 use Rattle.calls.proofs.Bracketed.{brackets}
 use Rattle.calls.proofs.Texts.{Alive}
+use Rattle.reading.specs.declared.frames.Frame.{Frame}
 use Rattle.reading.specs.declared.reader.Stage.{Stage}
 use Rattle.reading.specs.declared.reader.Stage.TheVariants.{Wants, Fresh, After, Done}
-use Rattle.reading.specs.Standing.{stacked, side_of, StandsAt, list_ending}
-use Rattle.reading.proofs.Stacks.{stacked_length, stacked_push, stacked_top, stacked_put}
+use Rattle.reading.specs.Held.{Popped, Turned, side_of, top_side}
+use Rattle.reading.specs.Standing.{StandsAt, list_ending}
 
-module _ (stage : Stage) (sides : List Side) (depth : ℕ) (room : depth ≤ length sides) where
-  pub depth_is : (q : State) → StandsAt stage sides depth q → depth ≡ length (brackets q)
-  depth_is q s = sym (stacked_length sides depth room) ∙ (ap length s.open_sides ∙ length-map (brackets q) side_of)
+abbrev pub sides : List (Frame (Unit {0})) → List Side
+sides fs = map (λ f. f.side) fs
 
-  -- the innermost bracket, and those outside
-  top_is : (b : Bracket) (bs : List Bracket) → stacked sides depth ≡ side_of b ∷ map side_of bs → (0 < depth) × (get_or sides (depth - 1) Left ≡ side_of b) × (stacked sides (depth - 1) ≡ map side_of bs)
-  top_is b bs e =
-      let l = stacked_length sides depth room in
-      let k = ap length e in
-      let h : 0 < depth = omega arith in
-      let t = stacked_top sides depth Left h room in
-      (h, (cc), (cc))
+module _ (stage : Stage) (fs : List (Frame (Unit {0}))) where
+  pub depth_is : (q : State) → StandsAt stage fs q → length fs ≡ length (brackets q)
+  depth_is q s = sym (length-map fs (λ f. f.side)) ∙ (ap length s.open_sides ∙ length-map (brackets q) side_of)
 
-  pub list_ends : (q : State) → (stage ≡ Fresh) ⊎ (stage ≡ After) → StandsAt stage sides depth q → Some (get_or sides (depth - 1) Left) ≡ list_ending q
+  top_is : (us : List (Frame (Unit {0}))) (b : Bracket) (bs : List Bracket) → sides us ≡ side_of b ∷ map side_of bs → top_side us ≡ Some (side_of b)
+  top_is [] b bs e = let z : ◌≡◌ {A = ℕ} 0 1 = cc in absurd (omega arith)
+  top_is (f ∷ us) b bs e = cc
+
+  pub list_ends : (q : State) → (stage ≡ Fresh) ⊎ (stage ≡ After) → StandsAt stage fs q → top_side fs ≡ list_ending q
   list_ends (wants bs) w s = absurd (never w s.at_stage)
     where
       never : (stage ≡ Fresh) ⊎ (stage ≡ After) → Some Wants ≡ Some stage → ⊥
       never (inl e) h = let z : ◌≡◌ {A = ℕ} 0 1 = cc in omega arith
       never (inr e) h = let z : ◌≡◌ {A = ℕ} 0 1 = cc in omega arith
-  list_ends (fresh b bs) w s = ap Some (top_is b bs s.open_sides).1
-  list_ends (after b bs) w s = ap Some (top_is b bs s.open_sides).1
+  list_ends (fresh b bs) w s = top_is fs b bs s.open_sides
+  list_ends (after b bs) w s = top_is fs b bs s.open_sides
   list_ends (done g) w s = absurd (never w s.at_stage)
     where
       never : (stage ≡ Fresh) ⊎ (stage ≡ After) → Some Done ≡ Some stage → ⊥
@@ -43,22 +42,22 @@ module _ (stage : Stage) (sides : List Side) (depth : ℕ) (room : depth ≤ len
   list_ends wrong w s = let h = s.at_stage in let z : ◌≡◌ {A = ℕ} 0 1 = cc in absurd (omega arith)
 
   -- `{`
-  pub opens : (q : State) → (stage ≡ Wants) ⊎ (stage ≡ Fresh) → depth < length sides → StandsAt stage sides depth q → StandsAt Fresh (set sides depth Left) (depth + 1) (next q open_mark)
-  opens (wants bs) w l s = record { at_stage = refl; open_sides = stacked_push sides depth Left l ∙ ap (λ ss. Left ∷ ss) s.open_sides }
-  opens (fresh b bs) w l s = record { at_stage = refl; open_sides = stacked_push sides depth Left l ∙ ap (λ ss. Left ∷ ss) s.open_sides }
-  opens (after b bs) w l s = absurd (never w s.at_stage)
+  pub opens : (q : State) → (stage ≡ Wants) ⊎ (stage ≡ Fresh) → StandsAt stage fs q → (f : Frame (Unit {0})) (later : List (Frame (Unit {0}))) → f.side ≡ Left → later ≡ f ∷ fs → StandsAt Fresh later (next q open_mark)
+  opens (wants bs) w s f later l e = record { at_stage = refl; open_sides = ap sides e ∙ ap₂ ◌∷◌ l s.open_sides }
+  opens (fresh b bs) w s f later l e = record { at_stage = refl; open_sides = ap sides e ∙ ap₂ ◌∷◌ l s.open_sides }
+  opens (after b bs) w s f later l e = absurd (never w s.at_stage)
     where
       never : (stage ≡ Wants) ⊎ (stage ≡ Fresh) → Some After ≡ Some stage → ⊥
       never (inl e) h = let z : ◌≡◌ {A = ℕ} 0 1 = cc in omega arith
       never (inr e) h = let z : ◌≡◌ {A = ℕ} 0 1 = cc in omega arith
-  opens (done g) w l s = absurd (never w s.at_stage)
+  opens (done g) w s f later l e = absurd (never w s.at_stage)
     where
       never : (stage ≡ Wants) ⊎ (stage ≡ Fresh) → Some Done ≡ Some stage → ⊥
       never (inl e) h = let z : ◌≡◌ {A = ℕ} 0 1 = cc in omega arith
       never (inr e) h = let z : ◌≡◌ {A = ℕ} 0 1 = cc in omega arith
-  opens wrong w l s = let h = s.at_stage in let z : ◌≡◌ {A = ℕ} 0 1 = cc in absurd (omega arith)
+  opens wrong w s f later l e = let h = s.at_stage in let z : ◌≡◌ {A = ℕ} 0 1 = cc in absurd (omega arith)
 
-  pub opens_deep : (q : State) → (stage ≡ Wants) ⊎ (stage ≡ Fresh) → depth ≡ 96 → StandsAt stage sides depth q → Alive (next q open_mark) × (length (brackets (next q open_mark)) ≡ 97)
+  pub opens_deep : (q : State) → (stage ≡ Wants) ⊎ (stage ≡ Fresh) → length fs ≡ 96 → StandsAt stage fs q → Alive (next q open_mark) × (length (brackets (next q open_mark)) ≡ 97)
   opens_deep (wants bs) w l s = let h = depth_is (wants bs) s in (tt, omega arith)
   opens_deep (fresh b bs) w l s = let h = depth_is (fresh b bs) s in (tt, omega arith)
   opens_deep (after b bs) w l s = absurd (never w s.at_stage)
@@ -69,41 +68,46 @@ module _ (stage : Stage) (sides : List Side) (depth : ℕ) (room : depth ≤ len
   opens_deep (done g) w l s = let h = depth_is (done g) s in absurd (omega arith)
   opens_deep wrong w l s = let h = s.at_stage in let z : ◌≡◌ {A = ℕ} 0 1 = cc in absurd (omega arith)
 
-  -- `|`
-  bracket_bars : (b : Bracket) (bs : List Bracket) → Some Left ≡ Some (side_of b) → stacked sides depth ≡ side_of b ∷ map side_of bs → StandsAt Fresh (set sides (depth - 1) Right) depth (next (fresh b bs) bar)
-  bracket_bars (in_left ls) bs e s = let (h, t, u) = top_is (in_left ls) bs s in record { at_stage = refl; open_sides = stacked_put sides depth Right h room ∙ ap (λ ss. Right ∷ ss) u }
-  bracket_bars (in_right ls rs) bs e s = let z : ◌≡◌ {A = ℕ} 0 1 = cc in absurd (omega arith)
+-- `|`
+bracket_bars : (b : Bracket) (bs : List Bracket) (fs later : List (Frame (Unit {0}))) → Some Left ≡ Some (side_of b) → sides fs ≡ side_of b ∷ map side_of bs → Turned fs later → StandsAt Fresh later (next (fresh b bs) bar)
+bracket_bars b bs [] later e s t = let z : ◌≡◌ {A = ℕ} 0 1 = cc in absurd (omega arith)
+bracket_bars (in_left ls) bs (f ∷ us) later e s t = record { at_stage = refl; open_sides = ap sides t ∙ ap (λ ss. Right ∷ ss) (cc) }
+bracket_bars (in_right ls rs) bs (f ∷ us) later e s t = let z : ◌≡◌ {A = ℕ} 0 1 = cc in absurd (omega arith)
 
-  pub bars : (q : State) → Some Left ≡ list_ending q → StandsAt stage sides depth q → StandsAt Fresh (set sides (depth - 1) Right) depth (next q bar)
-  bars (wants bs) e s = let z : ◌≡◌ {A = ℕ} 0 1 = cc in absurd (omega arith)
-  bars (fresh b bs) e s = bracket_bars b bs e s.open_sides
-  bars (after b bs) e s = bracket_bars b bs e s.open_sides
-  bars (done g) e s = let z : ◌≡◌ {A = ℕ} 0 1 = cc in absurd (omega arith)
-  bars wrong e s = let z : ◌≡◌ {A = ℕ} 0 1 = cc in absurd (omega arith)
+pub bars : (stage : Stage) (fs later : List (Frame (Unit {0}))) (q : State) → Some Left ≡ list_ending q → Turned fs later → StandsAt stage fs q → StandsAt Fresh later (next q bar)
+bars stage fs later (wants bs) e t s = let z : ◌≡◌ {A = ℕ} 0 1 = cc in absurd (omega arith)
+bars stage fs later (fresh b bs) e t s = bracket_bars b bs fs later e s.open_sides t
+bars stage fs later (after b bs) e t s = bracket_bars b bs fs later e s.open_sides t
+bars stage fs later (done g) e t s = let z : ◌≡◌ {A = ℕ} 0 1 = cc in absurd (omega arith)
+bars stage fs later wrong e t s = let z : ◌≡◌ {A = ℕ} 0 1 = cc in absurd (omega arith)
 
-  -- `}`
-  same_side : (g : Form) (b : Bracket) → side_of (put g b) ≡ side_of b
-  same_side g (in_left ls) = refl
-  same_side g (in_right ls rs) = refl
+-- `}`
+same_side : (g : Form) (b : Bracket) → side_of (put g b) ≡ side_of b
+same_side g (in_left ls) = refl
+same_side g (in_right ls rs) = refl
 
-  module _ (later : Stage) (at_last : depth - 1 ≡ 0 → later ≡ Done) (inside : 0 < depth - 1 → later ≡ After) where
-    finishes : (g : Form) (bs : List Bracket) → stacked sides (depth - 1) ≡ map side_of bs → StandsAt later sides (depth - 1) (finish g bs)
-    finishes g [] e =
-        let l = stacked_length sides (depth - 1) (omega arith) in
-        let k = ap length e in
-        record { at_stage = ap Some (sym (at_last (omega arith))); open_sides = e }
-    finishes g (b ∷ bs) e =
-        let l = stacked_length sides (depth - 1) (omega arith) in
-        let k = ap length e in
-        record { at_stage = ap Some (sym (inside (omega arith))); open_sides = e ∙ ap (λ s. s ∷ map side_of bs) (sym (same_side g b)) }
+module _ (stage later_stage : Stage) (fs later : List (Frame (Unit {0}))) (r : Option (Unit {0})) (shut : Popped fs r later) (at_last : length later ≡ 0 → later_stage ≡ Done) (inside : 0 < length later → later_stage ≡ After) where
+  finishes : (g : Form) (bs : List Bracket) → sides later ≡ map side_of bs → StandsAt later_stage later (finish g bs)
+  finishes g [] e =
+      let l = length-map later (λ f. f.side) in
+      let k = ap length e in
+      record { at_stage = ap Some (sym (at_last (omega arith))); open_sides = e }
+  finishes g (b ∷ bs) e =
+      let l = length-map later (λ f. f.side) in
+      let k = ap length e in
+      record { at_stage = ap Some (sym (inside (omega arith))); open_sides = e ∙ ap (λ s. s ∷ map side_of bs) (sym (same_side g b)) }
 
-    bracket_closes : (b : Bracket) (bs : List Bracket) → Some Right ≡ Some (side_of b) → stacked sides depth ≡ side_of b ∷ map side_of bs → StandsAt later sides (depth - 1) (next (fresh b bs) close_mark)
-    bracket_closes (in_left ls) bs e s = let z : ◌≡◌ {A = ℕ} 0 1 = cc in absurd (omega arith)
-    bracket_closes (in_right ls rs) bs e s = finishes (form ls rs) bs (top_is (in_right ls rs) bs s).2
+  rest_is : (us : List (Frame (Unit {0}))) (b : Bracket) (bs : List Bracket) → Popped us r later → sides us ≡ side_of b ∷ map side_of bs → sides later ≡ map side_of bs
+  rest_is [] b bs h e = let z : ◌≡◌ {A = ℕ} 0 1 = cc in absurd (omega arith)
+  rest_is (f ∷ us) b bs h e = ap sides h.1 ∙ (cc)
 
-    pub closes : (q : State) → Some Right ≡ list_ending q → StandsAt stage sides depth q → StandsAt later sides (depth - 1) (next q close_mark)
-    closes (wants bs) e s = let z : ◌≡◌ {A = ℕ} 0 1 = cc in absurd (omega arith)
-    closes (fresh b bs) e s = bracket_closes b bs e s.open_sides
-    closes (after b bs) e s = bracket_closes b bs e s.open_sides
-    closes (done g) e s = let z : ◌≡◌ {A = ℕ} 0 1 = cc in absurd (omega arith)
-    closes wrong e s = let z : ◌≡◌ {A = ℕ} 0 1 = cc in absurd (omega arith)
+  bracket_closes : (b : Bracket) (bs : List Bracket) → Some Right ≡ Some (side_of b) → sides fs ≡ side_of b ∷ map side_of bs → StandsAt later_stage later (next (fresh b bs) close_mark)
+  bracket_closes (in_left ls) bs e s = let z : ◌≡◌ {A = ℕ} 0 1 = cc in absurd (omega arith)
+  bracket_closes (in_right ls rs) bs e s = finishes (form ls rs) bs (rest_is fs (in_right ls rs) bs shut s)
+
+  pub closes : (q : State) → Some Right ≡ list_ending q → StandsAt stage fs q → StandsAt later_stage later (next q close_mark)
+  closes (wants bs) e s = let z : ◌≡◌ {A = ℕ} 0 1 = cc in absurd (omega arith)
+  closes (fresh b bs) e s = bracket_closes b bs e s.open_sides
+  closes (after b bs) e s = bracket_closes b bs e s.open_sides
+  closes (done g) e s = let z : ◌≡◌ {A = ℕ} 0 1 = cc in absurd (omega arith)
+  closes wrong e s = let z : ◌≡◌ {A = ℕ} 0 1 = cc in absurd (omega arith)

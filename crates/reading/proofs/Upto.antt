@@ -1,6 +1,7 @@
 -- The marks of a form's text in turn: where the machine stands, and what each mark does to the open brackets.
 -- Assumes nothing.
-use Rattle.std.proofs.Common.{◌≡◌, ℕ, ◌+◌, ◌<◌, ◌≤◌, List, [], ◌∷◌, ◌++◌, map, length, get_or, take, drop, Some, None, sym, refl, ap, ◌∙◌, subst, arith}
+use Rattle.std.proofs.Common.{◌≡◌, ℕ, ◌+◌, ◌<◌, ◌≤◌, List, [], ◌∷◌, ◌++◌, map, length, get_or, take, drop, Some, Ok, Err, Result, sym, refl, ap, ◌∙◌, subst, arith}
+use Rattle.std.specs.Prelude.{IsOk}
 use Rattle.std.proofs.lemmas.List.{length-map, length-take, take-map, take_all, take_more, drop_more, take-append-drop, get_or-map}
 use Rattle.games.specs.Form.{Form, Forms, ∅}
 use Rattle.games.specs.Text.{open_mark, bar, close_mark, comma, byte, text}
@@ -13,7 +14,8 @@ use Rattle.calls.proofs.Bracketed.{brackets, outside, closing, alive_before, tex
 use Rattle.calls.proofs.Scanned.{at_more, nesting_is}
 use Rattle.calls.proofs.Texts.{Alive, at}
 use Rattle.reading.specs.declared.mark.Mark.{Mark}
-use Rattle.reading.specs.Marks.{meant, mark_of}
+use Rattle.reading.specs.declared.mark.NoMark.{NoMark}
+use Rattle.reading.specs.Marks.{Marks, meant, mark_of}
 use Rattle.reading.proofs.Checked.{mark_is, no_mark_is}
 
 -- where the machine stands after i marks of g's text
@@ -73,8 +75,13 @@ module _ (g : Form) (t : List ℕ) (w : Written t g) where
         let s : here ≡ meant k = cc in
         subst (There g i) s there_here
 
-    pub some_mark : None ≡ mark_of (get_or t i 0) → ⊥
-    some_mark e = no_mark_is (get_or t i 0) e here (sym byte_here)
+    pub some_mark : (r : Result Mark NoMark) → Marks (get_or t i 0) r → IsOk r
+    some_mark (Ok m) e = refl
+    some_mark (Err f) e = absurd (no_mark_is (get_or t i 0) e here (sym byte_here))
+
+    -- and so it is where the byte is converted
+    pub there_is : (r : Result Mark NoMark) → Marks (get_or t i 0) r → (k l : Mark) → r ≡ Ok k → k ≡ l → There g i (meant l)
+    there_is r e k l is same = subst (λ m. There g i (meant m)) same (there k (subst (Marks (get_or t i 0)) is e))
 
 -- what each mark does to the open brackets
 pub opened : (q : State) → Alive (next q open_mark) → brackets (next q open_mark) ≡ in_left ∅ ∷ brackets q
@@ -150,12 +157,6 @@ finish_last h g (b ∷ bs) e = let z : ◌≡◌ {A = ℕ} 0 1 = cc in absurd (o
 module _ (g : Form) (i : ℕ) where
   pub some_room : There g i open_mark → length (brackets (upto g i)) < 96
   some_room x = let e = ap length (opened (upto g i) x.alive) in let k = x.few in omega arith
-
-  pub some_bar : There g i bar → 0 < length (brackets (upto g i))
-  some_bar x = let e = ap length (barred (upto g i) x.alive).was in omega arith
-
-  pub some_close : There g i close_mark → 0 < length (brackets (upto g i))
-  some_close x = let e = ap length (shut (upto g i) x.alive).was in omega arith
 
 -- at the end of the text the machine has read it
 pub upto_end : (g : Form) (t : List ℕ) → Written t g → (i : ℕ) → length t ≤ i → upto g i ≡ done g

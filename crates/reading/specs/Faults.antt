@@ -2,25 +2,12 @@
 -- Assumes nothing.
 use Rattle.std.specs.Prelude.{ℕ, Ok, Err, Result}
 use Rattle.calls.specs.Answers.{Answer, told, refused_at}
+use Rattle.calls.specs.Faults.{number_of, place_of}
 use Rattle.dictionary.specs.Faults
 use Rattle.reading.specs.declared.fault.LookUpFault.{LookUpFault}
 use Rattle.reading.specs.declared.fault.LookUpFault.TheVariants.{Text as Faulty, Missing}
 use Rattle.reading.specs.declared.fault.ReadFault.{ReadFault}
 use Rattle.reading.specs.declared.fault.ReadFault.TheVariants.{Text, Bracket}
-use Rattle.reading.specs.declared.fault.TextFault.{TextFault}
-use Rattle.reading.specs.declared.fault.TextFault.TheVariants.{WrongByte, EarlyEnd, TooDeep}
-
--- 6 for a byte with which no form goes on, 7 for an early end, 8 for the 97th nested bracket
-abbrev pub number_of : TextFault → ℕ
-number_of (WrongByte p) = 6
-number_of (EarlyEnd p) = 7
-number_of (TooDeep p) = 8
-
--- the place of the fault
-abbrev pub place_of : TextFault → ℕ
-place_of (WrongByte p) = p
-place_of (EarlyEnd p) = p
-place_of (TooDeep p) = p
 
 -- reading passes on the fault of the text, or of a closing bracket that is not sealed
 abbrev pub read_number : ReadFault → ℕ

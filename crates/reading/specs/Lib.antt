@@ -4,6 +4,7 @@ pub mod Standing
 pub mod Verdict
 pub mod Sided
 pub mod Held
+pub mod Walked
 pub mod Sealed
 pub mod Spelt
 pub mod Found

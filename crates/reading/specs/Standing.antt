@@ -1,25 +1,19 @@
 -- Where a reader of the code stands, in the words of the machine that takes one mark after the other.
 -- Assumes nothing.
-use Rattle.std.specs.Prelude.{◌≡◌, ℕ, Bool, true, false, List, map, reverse, length, take, Some, None, Option}
+use Rattle.std.specs.Prelude.{◌≡◌, ℕ, Bool, true, false, List, map, length, Some, None, Ok, Err, Option, Result}
 use Rattle.games.specs.declared.side.Side.{Side}
-use Rattle.games.specs.declared.side.Side.TheVariants.{Left, Right}
-use Rattle.games.proofs.Reader.{Bracket, in_left, in_right, State, wants, fresh, after, done, wrong}
+use Rattle.games.proofs.Reader.{State, wants, fresh, after, done, wrong}
 use Rattle.calls.proofs.Bracketed.{brackets}
 use Rattle.calls.proofs.Texts.{Alive}
+use Rattle.calls.specs.declared.fault.TextFault.{TextFault}
+use Rattle.calls.specs.declared.fault.TextFault.TheVariants.{WrongByte, TooDeep}
+use Rattle.reading.specs.declared.frames.Frame.{Frame}
+use Rattle.reading.specs.declared.reader.Misstep.{Misstep}
+use Rattle.reading.specs.declared.reader.Misstep.TheVariants.{Wrong, Deep}
 use Rattle.reading.specs.declared.reader.Reader.{Reader}
 use Rattle.reading.specs.declared.reader.Stage.{Stage}
 use Rattle.reading.specs.declared.reader.Stage.TheVariants.{Wants, Fresh, After, Done}
-use Rattle.reading.specs.declared.reader.Step.{Step}
-use Rattle.reading.specs.declared.reader.Step.TheVariants.{On, Wrong, Deep}
-
--- the first n of a list, from the last down: a stack, from its top down
-abbrev pub stacked : {A : Type 0} → List A → ℕ → List A
-stacked xs n = reverse (take n xs)
-
--- the side whose options are being read in an open bracket
-abbrev pub side_of : Bracket → Side
-side_of (in_left ls) = Left
-side_of (in_right ls rs) = Right
+use Rattle.reading.specs.Held.{side_of, stack_of}
 
 -- what may come next; nothing does where the text is wrong
 abbrev pub stage_of : State → Option Stage
@@ -30,12 +24,12 @@ stage_of (done g) = Some Done
 stage_of wrong = None
 
 -- the reader of the code stands where the machine does
-pub record StandsAt (stage : Stage) (sides : List Side) (depth : ℕ) (q : State) : Type 0 where
+pub record StandsAt (stage : Stage) (fs : List (Frame (Unit {0}))) (q : State) : Type 0 where
   pub at_stage : stage_of q ≡ Some stage
-  pub open_sides : stacked sides depth ≡ map side_of (brackets q)
+  pub open_sides : map (λ f. f.side) fs ≡ map side_of (brackets q)
 
 abbrev pub Stands : Reader → State → Type 0
-Stands r q = StandsAt r.stage r.sides r.depth q
+Stands r q = StandsAt r.stage (stack_of r.frames) q
 
 -- whether a form has been read to its end
 abbrev pub is_done : State → Bool
@@ -54,7 +48,12 @@ list_ending (done g) = None
 list_ending wrong = None
 
 -- after a mark that takes the machine to q: the reader stands there too, or the mark is wrong, or the machine has 97 brackets open
-abbrev pub Stepped : Reader → State → Step → Type 0
-Stepped r q On = Stands r q
-Stepped r q Wrong = q ≡ wrong
-Stepped r q Deep = Alive q × (length (brackets q) ≡ 97)
+abbrev pub Stepped : Reader → State → Result (Unit {0}) Misstep → Type 0
+Stepped r q (Ok u) = Stands r q
+Stepped r q (Err Wrong) = q ≡ wrong
+Stepped r q (Err Deep) = Alive q × (length (brackets q) ≡ 97)
+
+-- the fault of a text in which this is the mark at the place
+abbrev pub fault_at : Misstep → ℕ → TextFault
+fault_at Wrong place = WrongByte place
+fault_at Deep place = TooDeep place

@@ -3,7 +3,7 @@ ghost use Rattle.reading.specs.Verdict.{Verdict};
 
 use crate::fault::TextFault;
 use crate::mark::Mark;
-use crate::reader::{Reader, Step};
+use crate::reader::Reader;
 
 // Refuses a text that is no form's, or is nested too deep, at the first byte that is not in order.
 pub fn check(text: &[u8]) -> Result<(), TextFault>
@@ -11,14 +11,8 @@ pub fn check(text: &[u8]) -> Result<(), TextFault>
 {
     let mut reader = Reader::begin();
     for (place, byte) in text.iter().enumerate() {
-        let Some(mark) = Mark::of(*byte) else {
-            return Err(TextFault::WrongByte(place));
-        };
-        match reader.take(mark) {
-            Step::On => {}
-            Step::Wrong => return Err(TextFault::WrongByte(place)),
-            Step::Deep => return Err(TextFault::TooDeep(place)),
-        }
+        let mark = Mark::try_from(*byte).map_err(|_| TextFault::WrongByte(place))?;
+        reader.take(mark).map_err(|misstep| misstep.at(place))?;
     }
     if reader.is_done() {
         Ok(())

@@ -1,48 +1,14 @@
 // Why a text is not read.
 ghost use Rattle.std.specs.Prelude.{◌≡◌};
-ghost use Rattle.reading.specs.Faults.{look_up_number, look_up_place, number_of, place_of, read_number, read_place};
+ghost use Rattle.reading.specs.Faults.{look_up_number, look_up_place, read_number, read_place};
 ghost use Rattle.reading.specs.declared.fault.LookUpFault.TheVariants.{Text as Faulty};
 ghost use Rattle.reading.specs.declared.fault.ReadFault.TheVariants.{Text};
 
+pub use calls::fault::TextFault;
 use dictionary::fault::DictionaryFault;
 
-// The fault of a text, with its place.
-#[derive(Clone, Copy)]
-pub enum TextFault {
-    // A byte with which no form goes on.
-    WrongByte(usize),
-    // The text ends before its form does.
-    EarlyEnd(usize),
-    // The 97th nested bracket.
-    TooDeep(usize),
-}
-
-impl TextFault {
-    // The number by which the fault is reported.
-    pub fn number(self) -> u8
-        ensures { result ≡ number_of self }
-    {
-        match self {
-            TextFault::WrongByte(_) => 6,
-            TextFault::EarlyEnd(_) => 7,
-            TextFault::TooDeep(_) => 8,
-        }
-    }
-
-    // The place of the fault: all before it is in order.
-    pub fn place(self) -> usize
-        ensures { result ≡ place_of self }
-    {
-        match self {
-            TextFault::WrongByte(place) => place,
-            TextFault::EarlyEnd(place) => place,
-            TextFault::TooDeep(place) => place,
-        }
-    }
-}
-
 // Why a text is not read into a dictionary.
-#[derive(Clone, Copy)]
+#[derive(Clone, Copy, Debug, PartialEq, Eq)]
 pub enum ReadFault {
     // The text is not a form's, or is nested too deep.
     Text(TextFault),
@@ -84,7 +50,7 @@ impl From<TextFault> for ReadFault {
 }
 
 // Why a text is not found in a frozen dictionary.
-#[derive(Clone, Copy)]
+#[derive(Clone, Copy, Debug, PartialEq, Eq)]
 pub enum LookUpFault {
     // The text is not a form's, or is nested too deep.
     Text(TextFault),

@@ -1,12 +1,13 @@
 // The open brackets of a text.
-ghost use Rattle.std.specs.Prelude.{◌≡◌, ◌≤◌, length};
+ghost use Rattle.std.specs.Prelude.{◌≤◌, length};
 
+use arrayvec::ArrayVec;
 use games::side::Side;
 
 mod stack;
 
 // The most brackets that may be open.
-const MOST_FRAMES: usize = 96;
+pub(crate) const MOST_OPEN: usize = 96;
 
 // An open bracket: the side whose options are being read, and what is kept of the options so far.
 #[derive(Clone, Copy)]
@@ -18,8 +19,6 @@ pub(crate) struct Frame<T> {
 // The open brackets, outermost first.
 #[derive(Drop)]
 pub(crate) struct Frames<T> {
-    items: [Frame<T>; MOST_FRAMES],
-    count: usize,
-    ghost few: { count ≤ 96 },
-    ghost room: { length items ≡ 96 },
+    items: ArrayVec<Frame<T>, MOST_OPEN>,
+    ghost few: { length items.items ≤ 96 },
 }

@@ -10,3 +10,4 @@ mod options;
 pub mod read;
 mod reader;
 mod spelling;
+mod walk;

@@ -1,6 +1,5 @@
 // The marks of a text.
-ghost use Rattle.std.specs.Prelude.{◌≡◌};
-ghost use Rattle.reading.specs.Marks.{mark_of};
+ghost use Rattle.reading.specs.Marks.{Marks};
 
 // What a text is made of: `{`, `|`, `}` and `,`.
 #[derive(Clone, Copy)]
@@ -11,17 +10,22 @@ pub enum Mark {
     Comma,
 }
 
-impl Mark {
-    // The mark of a byte, if it is one's.
-    pub fn of(byte: u8) -> Option<Mark>
-        ensures { result ≡ mark_of byte }
-    {
+// A byte is no mark's.
+#[derive(Clone, Copy)]
+pub struct NoMark;
+
+impl TryFrom<u8> for Mark {
+    type Error = NoMark;
+
+    ghost try_from_gives = { Marks };
+
+    fn try_from(byte: u8) -> Result<Mark, NoMark> {
         match byte {
-            b'{' => Some(Mark::Open),
-            b'|' => Some(Mark::Bar),
-            b'}' => Some(Mark::Close),
-            b',' => Some(Mark::Comma),
-            _ => None,
+            b'{' => Ok(Mark::Open),
+            b'|' => Ok(Mark::Bar),
+            b'}' => Ok(Mark::Close),
+            b',' => Ok(Mark::Comma),
+            _ => Err(NoMark),
         }
     }
 }

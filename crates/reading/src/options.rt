@@ -34,3 +34,12 @@ impl Options for Pair {
         self.insert(side, node as usize);
     }
 }
+
+// Nothing is kept of the options where a text is only checked.
+impl Options for () {
+    ghost keeps = { λ u l. Unit {0} };
+
+    fn none() -> () {}
+
+    fn put(&mut self, _side: Side, _node: u16) {}
+}

@@ -1,12 +1,7 @@
 // Where a reader of a text stands.
-ghost use Rattle.std.specs.Prelude.{◌≡◌, ◌≤◌, length};
-
-use games::side::Side;
+use crate::frames::Frames;
 
 mod steps;
-
-// The most brackets that may be open.
-const MOST_OPEN: usize = 96;
 
 // What may come next.
 #[derive(Clone, Copy)]
@@ -21,23 +16,18 @@ pub(crate) enum Stage {
     Done,
 }
 
-// What a mark comes to.
+// Why a mark is not taken.
 #[derive(Clone, Copy)]
-pub(crate) enum Step {
-    // The text goes on.
-    On,
+pub(crate) enum Misstep {
     // No form goes on with this mark.
     Wrong,
     // The bracket is the 97th.
     Deep,
 }
 
-// The brackets that are open, outermost first, each with the side whose options are being read.
-#[derive(Clone, Copy)]
+// What may come next, and the brackets that are open; nothing is kept of their options.
+#[derive(Drop)]
 pub(crate) struct Reader {
     stage: Stage,
-    sides: [Side; MOST_OPEN],
-    depth: usize,
-    ghost few: { depth ≤ 96 },
-    ghost room: { length sides ≡ 96 },
+    frames: Frames<()>,
 }

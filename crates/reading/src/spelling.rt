@@ -1,23 +1,34 @@
 // The options of an open bracket as they are written.
-ghost use Rattle.std.specs.Prelude.{◌≡◌, ◌≤◌, length};
+ghost use Rattle.reading.specs.Spelt.{spelt};
 
-pub(crate) mod writing;
+use crate::options::Options;
+use games::side::Side;
+use stores::numbers::Numbers;
 
 // How many numbers of a side are kept: one more than a row can have, so that a longer list is found in no row.
 const KEPT: usize = 17;
 
-// The first of the numbers of a side.
-#[derive(Clone, Copy)]
-pub(crate) struct Numbers {
-    items: [u16; KEPT],
-    count: usize,
-    ghost few: { count ≤ 17 },
-    ghost room: { length items ≡ 17 },
-}
-
 // The numbers of the Left options and of the Right options, in their order.
 #[derive(Clone, Copy)]
 pub(crate) struct Spelling {
-    pub(crate) left: Numbers,
-    pub(crate) right: Numbers,
+    pub(crate) left: Numbers<KEPT>,
+    pub(crate) right: Numbers<KEPT>,
+}
+
+impl Options for Spelling {
+    ghost keeps = { λ s l. spelt s l };
+
+    fn none() -> Spelling {
+        Spelling {
+            left: Numbers::none(),
+            right: Numbers::none(),
+        }
+    }
+
+    fn put(&mut self, side: Side, node: u16) {
+        match side {
+            Side::Left => self.left.push(node),
+            Side::Right => self.right.push(node),
+        }
+    }
 }

@@ -1,8 +1,7 @@
 -- The game of a position is the form whose options are the games of its successors; so who wins it is told by the successors.
 -- Assumes nothing.
-use Rattle.std.proofs.Common.{◌≡◌, ℕ, zero, suc, ◌+◌, ◌<◌, ◌≤◌, Bool, true, false, cond, not, ◌||◌, List, [], ◌∷◌, ◌++◌, map, length, get_or, Some, None, filter, sym, refl, ap, ◌∙◌, ap₂, append-nil, arith}
+use Rattle.std.proofs.Common.{◌≡◌, ℕ, zero, suc, ◌+◌, ◌<◌, ◌≤◌, Bool, true, false, cond, not, ◌||◌, List, [], ◌∷◌, length, get_or, drop, Some, None, filter, sym, refl, ap, ◌∙◌, ap₂, arith}
 use Rattle.std.specs.List.{AllByRecursion, range_with_len, slice_get}
-use Rattle.std.proofs.lemmas.List.FromFn.{filter_of_map_range_with_len_more}
 use Rattle.std.proofs.ByRecursion.{All-get_or}
 use Rattle.games.specs.declared.side.Side.{Side}
 use Rattle.games.specs.declared.side.Side.TheVariants.{Left, Right}
@@ -65,20 +64,6 @@ module _ (R : Rules) (l : Lawful R) where
   pub starter_law : (s : Side) (n : ℕ) → starter_wins R s n ≡ any_of (mover_wins R s) (R.moves s n)
   starter_law s n = alone s (game R n) ∙ ap (any (λ o. not (wins (other s) o 𝟎))) (options_of R l s n) ∙ any_each (λ o. not (wins (other s) o 𝟎)) (game R) (R.moves s n)
 
--- one that passes makes the test true, and none makes it false
-pub any_one : (p : ℕ → Bool) (ns : List ℕ) (i : ℕ) → i < length ns → p (get_or ns i 0) ≡ true → any_of p ns ≡ true
-any_one p [] i h e = absurd (omega arith)
-any_one p (n ∷ ns) zero h e = ap (λ b. b || any_of p ns) e
-any_one p (n ∷ ns) (suc i) h e = rw (any_one p ns i (omega arith) e) (or_true (p n))
-  where
-    or_true : (b : Bool) → (b || true) ≡ true
-    or_true true = refl
-    or_true false = refl
-
-pub any_none : (p : ℕ → Bool) (ns : List ℕ) → ((i : ℕ) → i < length ns → p (get_or ns i 0) ≡ false) → any_of p ns ≡ false
-any_none p [] f = refl
-any_none p (n ∷ ns) f = rw (f 0 (omega arith)) (any_none p ns (λ i h. f (suc i) (omega arith)))
-
 -- what a successor question that answers tells: the index is below the count, and the answer stands there
 pub nth_some : (xs : List ℕ) (i m : ℕ) → Some m ≡ slice_get xs i → (i < length xs) × (get_or xs i 0 ≡ m)
 nth_some [] i m e = let z : ◌≡◌ {A = ℕ} 0 1 = cc in absurd (omega arith)
@@ -90,43 +75,35 @@ nth_none [] i h e = omega arith
 nth_none (x ∷ xs) zero h e = let z : ◌≡◌ {A = ℕ} 0 1 = cc in omega arith
 nth_none (x ∷ xs) (suc i) h e = nth_none xs i (omega arith) e
 
+-- the first of the numbers left is the one at the index, and where none is left the index is past all
+pub left_some : (xs : List ℕ) (i m : ℕ) (ys : List ℕ) → drop i xs ≡ m ∷ ys → (Some m ≡ slice_get xs i) × (ys ≡ drop (i + 1) xs)
+left_some [] zero m ys e = let z : ◌≡◌ {A = ℕ} 0 1 = cc in absurd (omega arith)
+left_some [] (suc i) m ys e = let z : ◌≡◌ {A = ℕ} 0 1 = cc in absurd (omega arith)
+left_some (x ∷ xs) zero m ys e = (cc, cc)
+left_some (x ∷ xs) (suc i) m ys e =
+    let (first, others) = left_some xs i m ys e in
+    let next : suc (i + 1) ≡ suc i + 1 = omega arith in
+    (first, others ∙ ap (λ k. drop k (x ∷ xs)) next)
+
+pub left_none : (xs : List ℕ) (i : ℕ) → drop i xs ≡ [] → length xs ≤ i
+left_none [] i e = omega arith
+left_none (x ∷ xs) zero e = let z : ◌≡◌ {A = ℕ} 0 1 = cc in absurd (omega arith)
+left_none (x ∷ xs) (suc i) e = let h = left_none xs i e in omega arith
+
 -- so a successor is legal and has a smaller rank
 pub successor_falls : (R : Rules) → Lawful R → (s : Side) (n i m : ℕ) → Some m ≡ slice_get (R.moves s n) i → (R.legal m ≡ true) × (R.rank m < R.rank n)
 successor_falls R l s n i m e =
     let (h, k) = nth_some (R.moves s n) i m e in
     rw k at (All-get_or (λ m. (R.legal m ≡ true) × (R.rank m < R.rank n)) (R.moves s n) i 0 h (l.falls s n))
 
--- the search: a move that the other cannot answer wins, one that the other can does not, and where none wins the side cannot win
-module _ (R : Rules) (s : Side) (n i m : ℕ) (o : Side) (b : Bool) (there : Some m ≡ slice_get (R.moves s n) i) (turned : o ≡ other s) (told : b ≡ starter_wins R o m) where
-  moved : mover_wins R s (get_or (R.moves s n) i 0) ≡ not b
-  moved = let k = (nth_some (R.moves s n) i m there).1 in rw (k, ← turned, ← told)
+-- the places, counted from a, of the numbers that pass the test
+abbrev pub places : (ℕ → Bool) → ℕ → List ℕ → List ℕ
+places p a [] = []
+places p a (n ∷ ns) = cond (p n) (a ∷ places p (a + 1) ns) (places p (a + 1) ns)
 
-  pub move_wins : Lawful R → b ≡ false → true ≡ starter_wins R s n
-  move_wins l e = sym (starter_law R l s n ∙ any_one (mover_wins R s) (R.moves s n) i (nth_some (R.moves s n) i m there).0 (moved ∙ ap not e))
-
-  pub move_is : mover_wins R s (get_or (R.moves s n) i 0) ≡ not b
-  move_is = moved
-
-  pub move_loses : b ≡ true → mover_wins R s (get_or (R.moves s n) i 0) ≡ false
-  move_loses e = moved ∙ ap not e
-
-pub none_wins : (R : Rules) → Lawful R → (s : Side) (n i : ℕ) → length (R.moves s n) ≤ i → ((k : ℕ) → k < i → mover_wins R s (get_or (R.moves s n) k 0) ≡ false) → false ≡ starter_wins R s n
-none_wins R l s n i h f = sym (starter_law R l s n ∙ any_none (mover_wins R s) (R.moves s n) (λ k a. f k (omega arith)))
-
--- one move more, that wins or does not
-module _ (p : ℕ → Bool) (i : ℕ) where
-  kept_more : filter p (range_with_len 0 (i + 1)) ≡ filter p (range_with_len 0 i) ++ cond (p i) (i ∷ []) []
-  kept_more = let e = filter_of_map_range_with_len_more p (λ x. x) 0 i i (omega arith) in rw (← plain (i + 1), ← plain i) e
-    where
-      map_same : (xs : List ℕ) → map (λ x. x) xs ≡ xs
-      map_same [] = refl
-      map_same (x ∷ xs) = ap (λ ys. x ∷ ys) (map_same xs)
-
-      plain : (n : ℕ) → map (λ x. x) (range_with_len 0 n) ≡ range_with_len 0 n
-      plain n = map_same (range_with_len 0 n)
-
-  pub kept_yes : p i ≡ true → filter p (range_with_len 0 (i + 1)) ≡ filter p (range_with_len 0 i) ++ i ∷ []
-  kept_yes e = kept_more ∙ ap (λ b. filter p (range_with_len 0 i) ++ cond b (i ∷ []) []) e
-
-  pub kept_no : p i ≡ false → filter p (range_with_len 0 (i + 1)) ≡ filter p (range_with_len 0 i)
-  kept_no e = kept_more ∙ ap (λ b. filter p (range_with_len 0 i) ++ cond b (i ∷ []) []) e ∙ append-nil (filter p (range_with_len 0 i))
+-- they are the indices that pass a test which reads the number there
+pub places_filter : (p q : ℕ → Bool) (a : ℕ) (ns : List ℕ) → ((k j : ℕ) → k < length ns → a + k ≡ j → q j ≡ p (get_or ns k 0)) → places p a ns ≡ filter q (range_with_len a (length ns))
+places_filter p q a [] h = refl
+places_filter p q a (n ∷ ns) h =
+    let others = places_filter p q (a + 1) ns (λ k j b e. h (suc k) j (omega arith) (omega arith)) in
+    rw (h 0 a (omega arith) (omega arith), others) refl

@@ -3,7 +3,7 @@ ghost use Rattle.std.specs.Prelude.{◌≡◌};
 ghost use Rattle.rulesets.specs.Faults.{fault_number, sum_fault_number};
 
 // A board of a size beyond its rules.
-#[derive(Clone, Copy)]
+#[derive(Clone, Copy, Debug, PartialEq, Eq)]
 pub enum BoardFault {
     Size,
 }
@@ -20,7 +20,7 @@ impl BoardFault {
 }
 
 // A sum whose limit, width or depth passes the bounds of a ruleset.
-#[derive(Clone, Copy)]
+#[derive(Clone, Copy, Debug, PartialEq, Eq)]
 pub enum SumFault {
     Large,
 }

@@ -4,3 +4,4 @@
 pub mod fault;
 pub mod play;
 pub mod ruleset;
+pub mod successors;

@@ -6,6 +6,7 @@ ghost use Rattle.rulesets.specs.Rules.{game};
 ghost use Rattle.rulesets.specs.Winning.{starter_wins, winning};
 
 use crate::ruleset::Ruleset;
+use crate::successors::successors_of;
 use games::outcome::Outcome;
 use games::side::Side;
 use std::alloc::{AllocError, Global};
@@ -14,11 +15,9 @@ use std::alloc::{AllocError, Global};
 pub fn can_win<R: Ruleset>(board: &R, side: Side, code: u64) -> bool
     ensures { result ≡ starter_wins (R.Ruleset.rules board.now) side code }
 {
-    for index in 0..board.count(side, code) {
-        if let Some(next) = board.successor(side, code, index) {
-            if !can_win(board, side.other(), next) {
-                return true;
-            }
+    for next in successors_of(board, side, code) {
+        if !can_win(board, side.other(), next) {
+            return true;
         }
     }
     false
@@ -45,11 +44,9 @@ pub fn winning_moves<R: Ruleset>(
     ensures reads { GameReads (R.Ruleset.rules board.now) }
 {
     let mut indices = Vec::new(heap);
-    for index in 0..board.count(side, code) {
-        if let Some(left) = board.successor(side, code, index) {
-            if !can_win(board, side.other(), left) {
-                indices.push(index)?;
-            }
+    for (index, left) in successors_of(board, side, code).enumerate() {
+        if !can_win(board, side.other(), left) {
+            indices.push(index)?;
         }
     }
     Ok(indices)

@@ -1,13 +1,13 @@
 -- One node decided for a side, and with it those that are as good as it, or that it is as good as.
 -- Assumes nothing.
-use Rattle.std.proofs.Common.{◌≡◌, ℕ, ◌+◌, ◌<◌, ◌≤◌, Bool, true, false, ◌&&◌, ◌||◌, ltb, List, length, get_or, sym, refl, ap, ◌∙◌, inl, inr, arith}
+use Rattle.std.proofs.Common.{◌≡◌, ℕ, ◌+◌, ◌<◌, Bool, true, false, ◌&&◌, ◌||◌, ltb, List, length, get_or, sym, refl, ap, ◌∙◌, inl, inr, arith}
 use Rattle.std.proofs.lemmas.Bool.{or_cases, or_left, or_right, and_parts, cases_eq, cases_lt, cases_Bool, both_ways, lt-ltb, le-ltb}
 use Rattle.games.specs.declared.side.Side.{Side}
 use Rattle.games.specs.Sides.{other}
 use Rattle.games.specs.Tests.{as_good}
 use Rattle.games.proofs.Sides.{good_refl, good_trans}
 use Rattle.nodesets.specs.Pairs.{Sets, Within}
-use Rattle.nodesets.specs.Sets.{Meet, NextOutside}
+use Rattle.nodesets.specs.Sets.{Meet}
 use Rattle.sealing.specs.Forms.{game, node, none}
 use Rattle.sealing.specs.Invariants.{Lower, Ranked}
 use Rattle.sealing.specs.Steps.{bested_by, Partly, Upto, Further}
@@ -97,10 +97,6 @@ partly_known os ws s o h decided worse p u k l = (p.right k (u k l)).1
 
 pub upto_more : (os ws : List Sets) (s : Side) (o : Sets) (h : ℕ) (decided after worse : ℕ → Bool) → Further os ws s o h decided after worse → Upto h decided → Upto (h + 1) after
 upto_more os ws s o h decided after worse f u k l = elim (cases_eq k h) [ inl e ↦ ap after e ∙ f.here | inr d ↦ f.still k (u k (omega arith)) ]
-
--- the numbers up to the next that is not decided
-pub upto_next : (p : ℕ → Bool) (h r m : ℕ) → Upto (h + 1) p → NextOutside p (h + 1) r → m ≤ r → Upto m p
-upto_next p h r m u n l k i = elim (cases_lt k (h + 1)) [ inl a ↦ u k a | inr a ↦ n.passed k a (omega arith) ]
 
 -- all nodes are decided
 pub partly_all : (os ws : List Sets) (s : Side) (o : Sets) (decided worse : ℕ → Bool) → Partly os ws s o decided worse → Upto (length os) decided → (k : ℕ) → worse k ≡ (ltb k (length os) && as_good s (game os o) (node os k))

@@ -2,6 +2,7 @@
 -- Assumes nothing.
 use Rattle.std.proofs.Common.{◌≡◌, ℕ, zero, suc, ◌+◌, ◌<◌, ◌≤◌, Bool, true, false, ◌||◌, eqb, ltb, List, [], ◌∷◌, ◌++◌, length, get_or, take, drop, vec_items, vec_len, Ordering, Less, Equal, Greater, sym, refl, ap, ◌∙◌, subst, ap₂, inl, inr, arith}
 use Rattle.std.proofs.lemmas.Bool.{and_parts, and_from, ltb-true, lt-ltb, or_left, or_right, or_cases, eqb-true, eq-eqb, cases_lt, false≢true}
+use Rattle.std.specs.Ordering.{is_lt}
 use Rattle.std.proofs.lemmas.List.{get_or-map}
 use Rattle.games.specs.Form.{Form, ◌&◌, ◌∈◌}
 use Rattle.games.specs.Order.{◌≈◌}
@@ -127,3 +128,8 @@ complete_new n ks r c k h = any_insert (λ j. eqb j k) ks r n ∙ elim (cases_lt
   | inl l ↦ or_right (eqb n k) _ (c k l)
   | inr l ↦ or_left (eqb n k) _ (eq-eqb n k (omega arith))
 ]
+
+pub less_from : (o : Ordering) → is_lt o ≡ true → o ≡ Less
+less_from Less e = refl
+less_from Equal e = absurd (false≢true e)
+less_from Greater e = absurd (false≢true e)

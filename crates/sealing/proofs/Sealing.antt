@@ -1,6 +1,6 @@
 -- What the tables say of the nodes, and what sealing answers.
 -- Assumes nothing.
-use Rattle.std.proofs.Common.{◌≡◌, ℕ, ◌+◌, ◌<◌, Bool, true, cond, List, [], ◌∷◌, ◌++◌, map, length, get_or, take, drop, vec_items, vec_len, vec_capacity, filter, sym, refl, ap, ◌∙◌, subst, arith}
+use Rattle.std.proofs.Common.{◌≡◌, ℕ, ◌+◌, ◌<◌, Bool, true, cond, List, [], ◌∷◌, ◌++◌, map, length, get_or, take, drop, vec_items, vec_len, vec_capacity, filter, sym, refl, ap, ◌∙◌, subst, arith, Result, Ok, Err}
 use Rattle.std.specs.List.{AllByRecursion}
 use Rattle.std.proofs.lemmas.List.{length-map, length_push, get_or-map}
 use Rattle.std.proofs.lemmas.Bool.{cond-true}
@@ -20,8 +20,10 @@ use Rattle.sealing.specs.Forms.{node, game, none}
 use Rattle.sealing.specs.Steps.{Settled}
 use Rattle.sealing.specs.Views.{links}
 use Rattle.sealing.specs.Seals.{in_order, row_of, rows_of, count, row_at, node_of, form_of, Sound, Fresh, CanonicalRow, Narrow, NewRow, SealsTo}
-use Rattle.sealing.specs.declared.seal.Seal.{Seal}
-use Rattle.sealing.specs.declared.seal.Seal.TheVariants.{Unknown, Node, Wide, New}
+use Rattle.sealing.specs.declared.seal.Sealed.{Sealed}
+use Rattle.sealing.specs.declared.seal.SealFault.{SealFault}
+use Rattle.sealing.specs.declared.seal.Sealed.TheVariants.{Node, New}
+use Rattle.sealing.specs.declared.seal.SealFault.TheVariants.{Unknown, Wide}
 use Rattle.sealing.specs.Walks.{Placed}
 use Rattle.sealing.specs.declared.nodes.Nodes.{Nodes}
 use Rattle.sealing.specs.declared.tables.Tables.{Tables}
@@ -97,7 +99,7 @@ module _ (t : Tables) where
     here : game (links t.nodes) o ≡ form_of t o
     here = form_is o all_within
 
-    pub seals_node : (k : ℕ) → k < vec_len t.nodes.rows → game (links t.nodes) o ≈ node (links t.nodes) k → SealsTo (Node k) t o
+    pub seals_node : (k : ℕ) → k < vec_len t.nodes.rows → game (links t.nodes) o ≈ node (links t.nodes) k → SealsTo (Ok (Node k)) t o
     seals_node k h e = (all_within, subst (λ n. k < n) (count_is t) h, subst (λ g. g ≈ node_of t k) here e)
 
     module _ (none_equal : (k : ℕ) → k < vec_len t.nodes.rows → ¬ (game (links t.nodes) o ≈ node (links t.nodes) k)) (q : Sets) (settled : Settled (links t.nodes) o q) where
@@ -114,18 +116,18 @@ module _ (t : Tables) where
         canonical = subst (λ g. Canonical g) (form_is q q_within) settled.canonical;
       }
 
-      pub seals_wide : (Narrow (row_of t q) → ⊥) → SealsTo Wide t o
+      pub seals_wide : (Narrow (row_of t q) → ⊥) → SealsTo (Err Wide) t o
       seals_wide f = (all_within, fresh, (row_of t q, row, f))
 
       pub new_row : Narrow (row_of t q) → NewRow t o (row_of t q)
       new_row n = record { within = all_within; fresh = fresh; row = row; narrow = n }
 
   -- where no new row was answered, none is wanted
-  pub no_row : (o : Sets) (r : Seal) → SealsTo r t o → ((p : Pair) → r ≡ New p → ⊥) → (l : Lists) → NewRow t o l → ⊥
-  no_row o Unknown a d l n = a n.within
-  no_row o (Node k) (w, h, e) d l n = n.fresh k h e
-  no_row o Wide (w, f, (m, row, wide)) d l n = wide (subst (λ x. Narrow x) (row_one o l m n.row row) n.narrow)
-  no_row o (New p) a d l n = d p refl
+  pub no_row : (o : Sets) (r : Result Sealed SealFault) → SealsTo r t o → ((p : Pair) → r ≡ Ok (New p) → ⊥) → (l : Lists) → NewRow t o l → ⊥
+  no_row o (Err Unknown) a d l n = a n.within
+  no_row o (Ok (Node k)) (w, h, e) d l n = n.fresh k h e
+  no_row o (Err Wide) (w, f, (m, row, wide)) d l n = wide (subst (λ x. Narrow x) (row_one o l m n.row row) n.narrow)
+  no_row o (Ok (New p)) a d l n = d p refl
 
   -- a canonical row equals no node where the sets do not
   pub fresh_row : (o : Sets) (l : Lists) → NewRow t o l → (k : ℕ) → k < count t → ¬ (form_by (node_of t) l ≈ node_of t k)

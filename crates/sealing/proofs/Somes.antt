@@ -1,6 +1,6 @@
 -- Tests over the numbers below a bound.
 -- Assumes nothing.
-use Rattle.std.proofs.Common.{◌≡◌, ℕ, zero, suc, ◌+◌, ◌<◌, ◌≤◌, Bool, true, false, ◌&&◌, ◌||◌, sym, refl, ap, ◌∙◌, inl, inr, add-one, arith}
+use Rattle.std.proofs.Common.{◌≡◌, ℕ, zero, suc, ◌+◌, ◌<◌, Bool, true, false, ◌&&◌, ◌||◌, sym, refl, ap, ◌∙◌, inl, inr, add-one, arith}
 use Rattle.std.proofs.lemmas.Bool.{or_cases, or_left, or_right, cases_eq, false≢true}
 use Rattle.sealing.specs.Steps.{some}
 
@@ -27,23 +27,3 @@ gather_with now was first n p w e t u = rw (add-one n, t, u, e) (or_regroup firs
 
 pub gather_without : (was first : Bool) (n : ℕ) (p : ℕ → Bool) (w : ℕ → Bool) → was ≡ (first || some n (λ q. p q && w q)) → p n ≡ false → was ≡ (first || some (n + 1) (λ q. p q && w q))
 gather_without was first n p w e t = rw (add-one n, t, or_false (some n (λ q. p q && w q))) e
-
--- numbers that do not pass may be left out
-pub some_skip : (m n : ℕ) (p : ℕ → Bool) → m ≤ n → ((k : ℕ) → m ≤ k → k < n → p k ≡ false) → some n p ≡ some m p
-some_skip m zero p h f = let e : m ≡ 0 = omega arith in rw e
-some_skip m (suc n) p h f = elim (cases_eq m (suc n)) [
-  | inl e ↦ rw e
-  | inr d ↦ rw (f n (omega arith) (omega arith), or_false (some n p)) (some_skip m n p (omega arith) (λ k a b. f k a (omega arith)))
-]
-
-pub and_first : (a b : Bool) → a ≡ false → (a && b) ≡ false
-and_first a b e = rw e
-
-pub and_second : (a b : Bool) → b ≡ false → (a && b) ≡ false
-and_second true b e = e
-and_second false b e = refl
-
--- the turn with n in it, and on to m, with none in between
-pub gather_on : (now was : Bool) (n m : ℕ) (p w : ℕ → Bool) → was ≡ some n (λ q. p q && w q) → p n ≡ true → now ≡ (was || w n) → n + 1 ≤ m → ((k : ℕ) → n + 1 ≤ k → k < m → p k ≡ false)
-    → now ≡ some m (λ q. p q && w q)
-gather_on now was n m p w e t u l f = gather_with now was false n p w e t u ∙ sym (some_skip (n + 1) m (λ q. p q && w q) l (λ k a b. and_first (p k) (w k) (f k a b)))

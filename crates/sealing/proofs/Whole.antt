@@ -4,6 +4,7 @@ use Rattle.std.proofs.Common.{◌≡◌, ℕ, ◌<◌, length, get_or, vec_items
 use Rattle.std.proofs.lemmas.List.{length-map}
 use Rattle.games.specs.declared.side.Side.{Side}
 use Rattle.sealing.specs.declared.row.Row.{Row}
+use Rattle.nodesets.specs.declared.pair.Pair.{Pair}
 use Rattle.sealing.specs.declared.nodes.Nodes.{Nodes}
 use Rattle.nodesets.specs.Pairs.{Sets, Within, by}
 use Rattle.sealing.specs.Forms.{none}
@@ -37,3 +38,7 @@ compared_rows t o w h = subst (λ n. Compared (links t) o n w) (sym (count_rows 
 
 pub within_rows : (t : Nodes) (o : Sets) → Within (length (links t)) o → Within (vec_len t.rows) o
 within_rows t o h = subst (λ n. Within n o) (sym (count_rows t)) h
+
+-- what holds of nodes and a pair holds of those that equal them
+pub along : (P : Nodes → Pair → Type 0) (t u : Nodes) (m n : Pair) → t ≡ u → m ≡ n → P t m → P u n
+along P t u m n e f h = subst (λ (x : Nodes). P x n) e (subst (λ (p : Pair). P t p) f h)

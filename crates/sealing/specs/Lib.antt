@@ -7,3 +7,4 @@ pub mod Ranking
 pub mod Views
 pub mod Walks
 pub mod Seals
+pub mod Games

@@ -1,6 +1,6 @@
 -- What the tables say, and what a pair of sets of nodes seals to.
 -- Assumes nothing.
-use Rattle.std.specs.Prelude.{◌≡◌, ℕ, ◌<◌, ◌≤◌, Bool, ◌⊎◌, List, [], ◌∷◌, ◌++◌, map, length, vec_items, filter, Option, MatchOption, slice_index_or}
+use Rattle.std.specs.Prelude.{◌≡◌, ℕ, ◌<◌, ◌≤◌, Bool, ◌⊎◌, List, [], ◌∷◌, ◌++◌, map, length, vec_items, filter, Option, MatchOption, Result, Ok, Err, slice_index_or}
 use Rattle.std.specs.List.{AllByRecursion}
 use Rattle.games.specs.declared.side.Side.{Side}
 use Rattle.games.specs.declared.side.Side.TheVariants.{Left, Right}
@@ -11,8 +11,10 @@ use Rattle.games.specs.Canon.{Canonical}
 use Rattle.nodesets.specs.Pairs.{Sets, Within, by}
 use Rattle.sealing.specs.Forms.{node}
 use Rattle.sealing.specs.Views.{links}
-use Rattle.sealing.specs.declared.seal.Seal.{Seal}
-use Rattle.sealing.specs.declared.seal.Seal.TheVariants.{Unknown, Node, Wide, New}
+use Rattle.sealing.specs.declared.seal.Sealed.{Sealed}
+use Rattle.sealing.specs.declared.seal.Sealed.TheVariants.{Node, New}
+use Rattle.sealing.specs.declared.seal.SealFault.{SealFault}
+use Rattle.sealing.specs.declared.seal.SealFault.TheVariants.{Unknown, Wide}
 use Rattle.sealing.specs.declared.tables.Tables.{Tables}
 
 -- two sets of numbers as two lists, each in the order of ks
@@ -79,11 +81,11 @@ pub record NewRow (t : Tables) (o : Sets) (l : Lists) : Type 0 where
   pub narrow : Narrow l
 
 -- What two sets seal to: a number put is not a node; the node that equals their form; the canonical form is too wide; the new row.
-abbrev pub SealsTo : Seal → Tables → Sets → Type 0
-SealsTo Unknown t o = Within (count t) o → ⊥
-SealsTo (Node k) t o = Within (count t) o × (k < count t) × (form_of t o ≈ node_of t k)
-SealsTo Wide t o = Within (count t) o × Fresh t o × ((l : Lists) × CanonicalRow t o l × (Narrow l → ⊥))
-SealsTo (New p) t o = Within (count t) (by p) × NewRow t o (row_of t (by p))
+abbrev pub SealsTo : Result Sealed SealFault → Tables → Sets → Type 0
+SealsTo (Err Unknown) t o = Within (count t) o → ⊥
+SealsTo (Ok (Node k)) t o = Within (count t) o × (k < count t) × (form_of t o ≈ node_of t k)
+SealsTo (Err Wide) t o = Within (count t) o × Fresh t o × ((l : Lists) × CanonicalRow t o l × (Narrow l → ⊥))
+SealsTo (Ok (New p)) t o = Within (count t) (by p) × NewRow t o (row_of t (by p))
 
 -- no new row is wanted, or all 384 numbers are taken
 abbrev pub NoRow : Tables → Sets → Type 0

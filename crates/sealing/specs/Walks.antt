@@ -1,6 +1,7 @@
 -- A list of nodes in listing order, and what it says of sets of nodes.
 -- Assumes nothing.
-use Rattle.std.specs.Prelude.{◌≡◌, ℕ, ◌<◌, ◌≤◌, Bool, true, false, cond, ◌&&◌, ◌||◌, List, [], ◌∷◌, length, nat_eq, nat_lt, slice_index}
+use Rattle.std.specs.Prelude.{◌≡◌, ℕ, ◌<◌, ◌≤◌, Bool, true, false, cond, ◌&&◌, List, [], ◌∷◌, length, nat_eq, nat_lt, slice_index}
+use Rattle.std.specs.List.{list_any}
 use Rattle.std.specs.declared.cmp.Ordering.TheVariants.{Less, Equal, Greater}
 use Rattle.std.specs.declared.cmp.Ordering.{Ordering}
 use Rattle.games.specs.declared.side.Side.TheVariants.{Left, Right}
@@ -12,8 +13,7 @@ use Rattle.sealing.specs.Forms.{node}
 
 -- some number of the list is in the set
 abbrev pub any_of : (ℕ → Bool) → List ℕ → Bool
-any_of p [] = false
-any_of p (k ∷ ks) = p k || any_of p ks
+any_of p ks = list_any p ks
 
 -- At a number that just one of two sets has, that set comes first, unless the other has no later number: then the other has ended, and comes first.
 abbrev pub walk_step : Bool → Bool → Bool → Bool → Ordering → Ordering

@@ -6,9 +6,10 @@ ghost use Rattle.games.specs.Tests.{as_good};
 ghost use Rattle.nodesets.specs.Pairs.{Sets, Within, by};
 ghost use Rattle.nodesets.specs.Sets.{has};
 ghost use Rattle.sealing.specs.Forms.{node, game};
-ghost use Rattle.sealing.specs.Steps.{bested_by, Compared, EqualAt, Further, Partly};
+ghost use Rattle.sealing.specs.Steps.{bested_by, Further, Partly};
 ghost use Rattle.sealing.specs.Views.{links, ranks};
 
+use crate::game::Game;
 use crate::nodes::Nodes;
 use games::side::Side;
 use nodesets::nodeset::NodeSet;
@@ -27,10 +28,10 @@ impl Nodes {
         ensures { (h : ℕ) → has result h ≡ bested_by (ranks self.now) side (has set.now) h }
     {
         let mut all = NodeSet::empty();
-        let mut o = set.next_inside(0);
-        while o < self.rows.len() {
-            all.union(self.rows[o].worse.of(side));
-            o = set.next_inside(o + 1);
+        for (o, row) in self.rows.iter().enumerate() {
+            if set.contains(o) {
+                all.union(row.worse.of(side));
+            }
         }
         all
     }
@@ -53,10 +54,11 @@ impl Nodes {
         }
     }
 
-    // The nodes that a game with these options is as good as, for each side.
-    pub fn compare(&self, moves: &Pair) -> Pair
+    // The game with these options, and the nodes that it is as good as, for each side.
+    pub fn compare(&self, moves: &Pair) -> Game<'_>
         requires { Within (vec_len self.now.rows) (by moves.now) }
-        ensures { Compared (links self.now) (by moves.now) (vec_len self.now.rows) (by result) }
+        ensures nodes { result.nodes.now ≡ self.now }
+        ensures moves { result.moves ≡ moves.now }
     {
         let mut left = Known {
             decided: self.bested(Side::Right, &moves.right),
@@ -66,27 +68,18 @@ impl Nodes {
             decided: self.bested(Side::Left, &moves.left),
             worse: NodeSet::empty(),
         };
-        let mut h = 0;
-        while h < self.rows.len() {
+        for h in 0..self.rows.len() {
             self.decide(Side::Left, &mut left, &right.worse, h);
             self.decide(Side::Right, &mut right, &left.worse, h);
-            // the next node that is open for a side
-            let for_left = left.decided.next_outside(h + 1);
-            let for_right = right.decided.next_outside(h + 1);
-            h = for_left.min(for_right);
         }
-        Pair {
-            left: left.worse,
-            right: right.worse,
+        Game {
+            nodes: self,
+            moves: *moves,
+            worse: Pair {
+                left: left.worse,
+                right: right.worse,
+            },
         }
-    }
-
-    // The node that equals a game with these options, where there is one; worse: what `compare` gave.
-    pub fn equal(&self, moves: &Pair, worse: &Pair) -> Option<usize>
-        requires { Compared (links self.now) (by moves.now) (vec_len self.now.rows) (by worse.now) }
-        ensures { EqualAt result (links self.now) (vec_len self.now.rows) (by moves.now) }
-    {
-        worse.left.common(&worse.right)
     }
 
     // Whether a and b are nodes, and a is as good as b for the side.

@@ -2,10 +2,10 @@
 #![tactic(auto)]
 
 mod compare;
+mod game;
 mod nodes;
 mod order;
 mod place;
-mod reduce;
 mod row;
 pub mod seal;
 pub mod tables;

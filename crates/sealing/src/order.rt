@@ -9,17 +9,11 @@ use nodesets::nodeset::NodeSet;
 use nodesets::pair::Pair;
 use std::cmp::Ordering;
 
-// Whether the set has a number of the list, from place i on.
-fn has_later(listing: &[u16], set: &NodeSet, i: usize) -> bool
-    requires { i ≤ length listing.now }
-    ensures { result ≡ any_of (has set.now) (drop i listing.now) }
+// Whether the set has a number of the list.
+fn has_any(listing: &[u16], set: &NodeSet) -> bool
+    ensures { result ≡ any_of (has set.now) listing.now }
 {
-    for j in i..listing.len() {
-        if set.contains(listing[j] as usize) {
-            return true;
-        }
-    }
-    false
+    listing.iter().any(|k| set.contains(*k as usize))
 }
 
 // Where just one of two sets has a number: that set comes first, unless the other has none later.
@@ -38,17 +32,14 @@ fn parted(in_a: bool, a_later: bool, b_later: bool) -> Ordering
 fn order_sets(listing: &[u16], a: &NodeSet, b: &NodeSet) -> Ordering
     ensures { result ≡ walk_order (has a.now) (has b.now) listing.now }
 {
-    for i in 0..listing.len() {
-        let k = listing[i] as usize;
-        let in_a = a.contains(k);
-        let in_b = b.contains(k);
+    let mut rest = listing;
+    while let Some((k, later)) = rest.split_first() {
+        let in_a = a.contains(*k as usize);
+        let in_b = b.contains(*k as usize);
         if in_a != in_b {
-            return parted(
-                in_a,
-                has_later(listing, a, i + 1),
-                has_later(listing, b, i + 1),
-            );
+            return parted(in_a, has_any(later, a), has_any(later, b));
         }
+        rest = later;
     }
     Ordering::Equal
 }
@@ -57,24 +48,17 @@ fn order_sets(listing: &[u16], a: &NodeSet, b: &NodeSet) -> Ordering
 pub fn order_pairs(listing: &[u16], a: &Pair, b: &Pair) -> Ordering
     ensures { result ≡ pair_order (by a.now) (by b.now) listing.now }
 {
-    match order_sets(listing, &a.left, &b.left) {
-        Ordering::Equal => order_sets(listing, &a.right, &b.right),
-        Ordering::Less => Ordering::Less,
-        Ordering::Greater => Ordering::Greater,
-    }
+    order_sets(listing, &a.left, &b.left).then_with(|| order_sets(listing, &a.right, &b.right))
 }
 
 // How many nodes of the listing are in the set.
 pub fn count_listed(listing: &[u16], set: &NodeSet) -> usize
     ensures { result ≡ length (filter (has set.now) listing.now) }
 {
-    let mut n: usize = 0;
-    for i in 0..listing.len() {
-        if set.contains(listing[i] as usize) {
-            n += 1;
-        }
-    }
-    n
+    listing
+        .iter()
+        .filter(|k| set.contains(**k as usize))
+        .count()
 }
 
 // Writes the nodes of the listing that are in the set, as many as fit, to the front of the buffer; answers how many there are.
@@ -83,10 +67,10 @@ pub fn write_listed(listing: &[u16], set: &NodeSet, buffer: &mut [u16]) -> usize
     ensures written { buffer.new ≡ take (length buffer.old) (filter (has set.now) listing.now) ++ drop result buffer.old }
 {
     let mut n: usize = 0;
-    for i in 0..listing.len() {
-        if set.contains(listing[i] as usize) {
+    for node in listing {
+        if set.contains(*node as usize) {
             if n < buffer.len() {
-                buffer[n] = listing[i];
+                buffer[n] = *node;
             }
             n += 1;
         }

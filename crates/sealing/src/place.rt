@@ -5,7 +5,6 @@ ghost use Rattle.sealing.specs.Views.{links};
 
 use crate::nodes::Nodes;
 use crate::order::order_pairs;
-use std::cmp::Ordering;
 
 impl Nodes {
     // The place of the node k in the listing of the nodes below it.
@@ -17,12 +16,9 @@ impl Nodes {
         ensures { Placed (links self.now) listing.now k result }
     {
         let row = &self.rows[k];
-        for i in 0..listing.len() {
-            if let Ordering::Less = order_pairs(
-                listing,
-                &row.options,
-                &self.rows[listing[i] as usize].options,
-            ) {
+        for (i, other) in listing.iter().enumerate() {
+            let theirs = &self.rows[*other as usize].options;
+            if order_pairs(listing, &row.options, theirs).is_lt() {
                 return i;
             }
         }

@@ -7,7 +7,7 @@ use stores::fault::StoreFault;
 use stores::row::Row;
 use stores::store::Store;
 
-#[derive(Clone, Copy)]
+#[derive(Clone, Copy, PartialEq, Eq)]
 pub enum StoreCall {
     Capacity,
     Count,
@@ -18,7 +18,7 @@ pub enum StoreCall {
     Clear,
 }
 
-#[derive(Clone, Copy)]
+#[derive(Clone, Copy, Debug, PartialEq, Eq)]
 pub enum StoreAnswer {
     Size(usize),
     Number(Option<u16>),

@@ -6,7 +6,7 @@ use Rattle.std.proofs.lemmas.Bool.{ltb-true, and_parts, cases_lt}
 use Rattle.games.specs.declared.side.Side.{Side}
 use Rattle.games.specs.declared.side.Side.TheVariants.{Left, Right}
 use Rattle.games.specs.Numbered.{Lists, list_of}
-use Rattle.stores.specs.declared.row.Numbers.{Numbers}
+use Rattle.stores.specs.declared.numbers.Numbers.{Numbers}
 use Rattle.stores.specs.declared.row.Row.{Row}
 use Rattle.stores.specs.declared.row_list.RowList.{RowList}
 use Rattle.stores.specs.Kept.{rows_in}
@@ -23,7 +23,7 @@ names_at : (z : Side) (n : ℕ) (l : Lists) (i : ℕ) → names_below n l ≡ tr
 names_at Left n l i h k = below_at n l.left i (and_parts (all_below n l.left) (all_below n l.right) h).0 k
 names_at Right n l i h k = below_at n l.right i (and_parts (all_below n l.left) (all_below n l.right) h).1 k
 
-few_numbers : (x : Numbers) → length (numbers_of x) ≤ 16
+few_numbers : {most : ℕ} (x : Numbers most) → length (numbers_of x) ≤ most
 few_numbers x = omega (arith, length-take x.count x.items, x.few)
 
 few_in_row : (z : Side) (r : Row) → length (list_of z (lists_of r)) ≤ 16

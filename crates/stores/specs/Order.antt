@@ -1,8 +1,9 @@
 -- The order of rows.
 -- Assumes nothing.
-use Rattle.std.specs.Prelude.{ℕ, cond, List, [], ◌∷◌, ◌==◌, nat_lt}
+use Rattle.std.specs.Prelude.{ℕ, cond, List, ◌==◌, nat_lt}
 use Rattle.std.specs.declared.cmp.Ordering.TheVariants.{Less, Equal, Greater}
 use Rattle.std.specs.declared.cmp.Ordering.{Ordering}
+use Rattle.std.specs.Cmp.Lexicographic.{slice_cmp}
 use Rattle.std.specs.Ordering.{ordering_then}
 use Rattle.games.specs.Numbered.{Lists}
 
@@ -12,10 +13,7 @@ number_order x y = cond (nat_lt x y) Less (cond (x == y) Equal Greater)
 
 -- lists compare number by number; a list that ends first is earlier
 abbrev pub list_order : List ℕ → List ℕ → Ordering
-list_order [] [] = Equal
-list_order [] (y ∷ ys) = Less
-list_order (x ∷ xs) [] = Greater
-list_order (x ∷ xs) (y ∷ ys) = ordering_then (number_order x y) (list_order xs ys)
+list_order = slice_cmp number_order
 
 -- rows compare by their Left lists, and then by their Right lists
 abbrev pub row_order : Lists → Lists → Ordering

@@ -1,6 +1,8 @@
 -- What a store holds, a list of rows numbered from 0 up, and what it answers.
 -- Assumes nothing.
 use Rattle.std.specs.Prelude.{◌≡◌, ℕ, suc, ◌<◌, ◌≤◌, Bool, true, false, cond, ◌&&◌, List, [], ◌∷◌, ◌++◌, length, is_ok, Some, None, Ok, Err, Option, Result, ◌==◌, ◌≢◌, nat_le, nat_lt, slice_index, slice_index_or}
+use Rattle.std.specs.Cmp.Lexicographic.{pointwise}
+use Rattle.std.specs.List.{list_all}
 use Rattle.std.specs.Option.{option_map}
 use Rattle.games.specs.declared.side.Side.{Side}
 use Rattle.games.specs.Numbered.{Lists, list_of}
@@ -21,9 +23,9 @@ bare = record { left = []; right = [] }
 abbrev pub row_at : Rows → ℕ → Lists
 row_at rows n = slice_index_or rows n bare
 
--- a list, if it has at most 16 numbers
-abbrev pub short : List ℕ → Option (List ℕ)
-short l = cond (nat_le (length l) 16) (Some l) None
+-- a list, if it has no more numbers than `most`
+abbrev pub short : ℕ → List ℕ → Option (List ℕ)
+short most l = cond (nat_le (length l) most) (Some l) None
 
 -- the row of two lists, if both are short
 abbrev pub row_of_lists : List ℕ → List ℕ → Option Lists
@@ -31,10 +33,7 @@ row_of_lists l r = cond (nat_le (length l) 16 && nat_le (length r) 16) (Some (re
 
 -- whether two lists are the same
 abbrev pub same_list : List ℕ → List ℕ → Bool
-same_list [] [] = true
-same_list [] (y ∷ ys) = false
-same_list (x ∷ xs) [] = false
-same_list (x ∷ xs) (y ∷ ys) = x == y && same_list xs ys
+same_list = pointwise ◌==◌
 
 -- whether two rows have the same two lists
 abbrev pub same_lists : Lists → Lists → Bool
@@ -56,8 +55,7 @@ LowestFinds = (rows : Rows) (l : Lists) → Finds rows l (lowest rows l)
 
 -- whether each number of a list is below n
 abbrev pub all_below : ℕ → List ℕ → Bool
-all_below n [] = true
-all_below n (x ∷ xs) = nat_lt x n && all_below n xs
+all_below n = list_all (λ x. nat_lt x n)
 
 -- whether a row names only numbers below n
 abbrev pub names_below : ℕ → Lists → Bool

@@ -2,8 +2,10 @@
 ghost use Rattle.std.specs.Prelude.{◌≡◌};
 ghost use Rattle.stores.specs.Faults.{number_of};
 
+use std::alloc::AllocError;
+
 // Why a store does not take a row.
-#[derive(Clone, Copy)]
+#[derive(Clone, Copy, Debug, PartialEq, Eq)]
 pub enum StoreFault {
     // The row names a number that no row of the store has.
     Unknown,
@@ -24,10 +26,20 @@ impl StoreFault {
 }
 
 // Why a store cannot be made.
-#[derive(Clone, Copy)]
+#[derive(Clone, Copy, Debug, PartialEq, Eq)]
 pub enum MakeFault {
     // The capacity is not from 1 to 384.
     Capacity,
     // There is no memory for that many rows.
     Memory,
+}
+
+impl From<AllocError> for MakeFault {
+    ghost use Rattle.stores.specs.declared.fault.MakeFault.TheVariants.{Memory};
+
+    ghost from_gives = { λ _ e. e ≡ Memory };
+
+    fn from(_: AllocError) -> MakeFault {
+        MakeFault::Memory
+    }
 }

@@ -3,6 +3,7 @@
 
 pub mod fault;
 pub mod laws;
+pub mod numbers;
 pub mod row;
 pub mod row_list;
 pub mod store;

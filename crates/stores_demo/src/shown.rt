@@ -31,25 +31,14 @@ fn write_row<W: fmt::Write>(row: &Row, f: &mut fmt::Formatter<W>) -> fmt::Result
     write!(f, "}}")
 }
 
-fn name(side: Side) -> &'static str {
-    match side {
-        Side::Left => "Left",
-        Side::Right => "Right",
-    }
-}
-
 impl fmt::Display for Asked {
     fn fmt<W: fmt::Write>(&self, f: &mut fmt::Formatter<W>) -> fmt::Result {
         match self.0 {
             StoreCall::Capacity => write!(f, "capacity"),
             StoreCall::Count => write!(f, "count"),
-            StoreCall::ListLen(side, node) => {
-                let side = name(side);
-                write!(f, "{side} options of {node}")
-            }
+            StoreCall::ListLen(side, node) => write!(f, "{side:?} options of {node}"),
             StoreCall::OptionAt(side, node, index) => {
-                let side = name(side);
-                write!(f, "{side} option of {node} at {index}")
+                write!(f, "{side:?} option of {node} at {index}")
             }
             StoreCall::Find(row) => {
                 write!(f, "find ")?;

@@ -3,11 +3,13 @@
 use Rattle.std.proofs.Common.{◌≡◌, ℕ, zero, suc, ◌+◌, ◌-◌, ◌*◌, ◌^◌, ◌<◌, ◌≤◌, Bool, true, false, cond, List, [], ◌∷◌, ◌++◌, map, length, Some, None, Option, sym, refl, ap, ◌∙◌, arith}
 use lib.Arith.{digits_lt}
 use Rattle.std.specs.List.{slice_get}
+use Rattle.std.specs.Option.{option_map}
+use Rattle.std.proofs.lemmas.Option.{slice_get-map}
 use Rattle.games.specs.declared.side.Side.{Side}
 use Rattle.rulesets.specs.Rules.{Rules, Lawful}
 use Rattle.rulesets.proofs.Positions.{successor_falls}
 use Rattle.sums.specs.Sums.{first_code, second_code, legal_both, part_codes, plus}
-use Rattle.sums.specs.Parts.{both, fit, count_both, moves_at}
+use Rattle.sums.specs.Parts.{both, fit, moves_at}
 
 -- an item of the first of two lists, and of the second
 nth_first : (f : ℕ → ℕ) (xs ys : List ℕ) (i m : ℕ) → Some m ≡ slice_get xs i → Some (f m) ≡ slice_get (map f xs ++ ys) i
@@ -19,16 +21,6 @@ nth_second : (f g : ℕ → ℕ) (xs ys : List ℕ) (i : ℕ) → length xs ≤ 
 nth_second f g [] ys i h = ap (slice_get (map g ys)) (omega arith)
 nth_second f g (x ∷ xs) ys zero h = absurd (omega arith)
 nth_second f g (x ∷ xs) ys (suc i) h = nth_second f g xs ys i (omega arith) ∙ ap (slice_get (map g ys)) (omega arith)
-
-nth_some_map : (g : ℕ → ℕ) (ys : List ℕ) (i m : ℕ) → Some m ≡ slice_get ys i → Some (g m) ≡ slice_get (map g ys) i
-nth_some_map g [] i m e = let z : ◌≡◌ {A = ℕ} 0 1 = cc in absurd (omega arith)
-nth_some_map g (y ∷ ys) zero m e = let k : m ≡ y = cc in ap (λ x. Some (g x)) k
-nth_some_map g (y ∷ ys) (suc i) m e = nth_some_map g ys i m e
-
-nth_none_map : (g : ℕ → ℕ) (ys : List ℕ) (i : ℕ) → None ≡ slice_get ys i → None ≡ slice_get (map g ys) i
-nth_none_map g [] i e = refl
-nth_none_map g (y ∷ ys) zero e = let z : ◌≡◌ {A = ℕ} 0 1 = cc in absurd (omega arith)
-nth_none_map g (y ∷ ys) (suc i) e = nth_none_map g ys i e
 
 module _ (A B : Rules) where
   -- what the parts' codes, where there are any, tell
@@ -51,9 +43,6 @@ module _ (A B : Rules) where
     moves_are : (plus A B).moves s n ≡ map (λ m. m * base + b) (A.moves s a) ++ map (λ m. a * base + m) (B.moves s b)
     moves_are = let p = parted n a b told in rw (p.first_is, p.second_is, limit_is) (moves_at A B s n p.legal_sum)
 
-    pub counted : length ((plus A B).moves s n) ≡ length (A.moves s a) + length (B.moves s b)
-    counted = let p = parted n a b told in rw (p.first_is, p.second_is) (ap length (moves_at A B s n p.legal_sum) ∙ count_both A B s (first_code B n) (second_code B n))
-
     module _ (i m : ℕ) (there : Some m ≡ slice_get (A.moves s a) i) where
       pub first_fits : Lawful A → Lawful B → m * base + b < 2 ^ 64
       first_fits la lb =
@@ -71,10 +60,10 @@ module _ (A B : Rules) where
       second_at = ap (λ ms. slice_get ms i) moves_are ∙ rw before_is (nth_second (λ m. m * base + b) (λ m. a * base + m) (A.moves s a) (B.moves s b) i (omega arith))
 
       pub second_found : (m : ℕ) → Some m ≡ slice_get (B.moves s b) (i - before) → Some (a * base + m) ≡ slice_get ((plus A B).moves s n) i
-      second_found m there = nth_some_map (λ m. a * base + m) (B.moves s b) (i - before) m there ∙ sym second_at
+      second_found m there = ap (option_map (λ m. a * base + m)) there ∙ sym (slice_get-map (λ m. a * base + m) (B.moves s b) (i - before)) ∙ sym second_at
 
       pub none_found : None ≡ slice_get (B.moves s b) (i - before) → None ≡ slice_get ((plus A B).moves s n) i
-      none_found none = nth_none_map (λ m. a * base + m) (B.moves s b) (i - before) none ∙ sym second_at
+      none_found none = ap (option_map (λ m. a * base + m)) none ∙ sym (slice_get-map (λ m. a * base + m) (B.moves s b) (i - before)) ∙ sym second_at
 
     pub second_fits : Lawful A → Lawful B → (j m : ℕ) → Some m ≡ slice_get (B.moves s b) j → a * base + m < 2 ^ 64
     second_fits la lb j m there =

@@ -1,10 +1,11 @@
 -- The sum of two lawful rulesets is lawful, and so is the minus of one.
 -- Assumes nothing.
-use Rattle.std.specs.Prelude.{◌≡◌, ℕ, ◌+◌, ◌*◌, ◌^◌, ◌<◌, ◌≤◌, Bool, true, false, cond, ◌&&◌, [], length, refl}
+use Rattle.std.specs.Prelude.{◌≡◌, ℕ, ◌+◌, ◌*◌, ◌^◌, ◌<◌, ◌≤◌, true, cond, [], length}
 use Rattle.std.proofs.Common.{◌∙◌, div-add-mod', arith, leb-true}
 use Rattle.std.proofs.Math.Path.{ap}
 use Rattle.std.proofs.Math.Nat.{mul-pos}
 use Rattle.std.proofs.Math.Arith.{digits_lt, digits_div, digits_mod}
+use Rattle.std.proofs.lemmas.Bool.{and_parts, and_from, cond_both}
 use Rattle.std.specs.List.{AllByRecursion}
 use Rattle.std.proofs.lemmas.List.{length-map, length-append}
 use Rattle.std.proofs.ByRecursion.{All-append, All-map, All-weaker}
@@ -27,21 +28,6 @@ minus_lawful R l = record {
   no_moves = λ s n. l.no_moves (other s) n;
 }
 
-and_both : (a b : Bool) → (a && b) ≡ true → (a ≡ true) × (b ≡ true)
-and_both true true e = (refl, refl)
-and_both true false e = (refl, e)
-and_both false b e = let z : ◌≡◌ {A = ℕ} 0 1 = cc in absurd (omega arith)
-
-both_and : (a b : Bool) → a ≡ true → b ≡ true → (a && b) ≡ true
-both_and true true p q = refl
-both_and true false p q = q
-both_and false b p q = p
-
--- what holds either way
-either : {X : Type 0} (P : X → Type 0) (b : Bool) (y : X) {x : X} → (b ≡ true → P x) → P y → P (cond b x y)
-either P true y f p = f refl
-either P false y f p = p
-
 module _ (A B : Rules) where
   -- what a sum that fits keeps to
   pub record Fit : Type 0 where
@@ -51,8 +37,8 @@ module _ (A B : Rules) where
 
   pub fit : fits A B ≡ true → Fit
   fit e =
-      let (l, r) = and_both _ _ e in
-      let (w, d) = and_both _ _ r in
+      let (l, r) = and_parts _ _ e in
+      let (w, d) = and_parts _ _ r in
       record { limits = leb-true _ _ l; widths = leb-true _ _ w; depths = leb-true _ _ d }
 
   -- what a legal code of a sum tells
@@ -63,14 +49,14 @@ module _ (A B : Rules) where
 
   pub both : (n : ℕ) → legal_both A B n ≡ true → Both n
   both n e =
-      let (f, r) = and_both _ _ e in
-      let (p, q) = and_both _ _ r in
+      let (f, r) = and_parts _ _ e in
+      let (p, q) = and_parts _ _ r in
       record { fitting = f; first = p; second = q }
 
   pub legal_code : Lawful B → fits A B ≡ true → (a b : ℕ) → A.legal a ≡ true → B.legal b ≡ true → legal_both A B (code_of B a b) ≡ true
   legal_code l f a b p q =
       let low = l.below b q in
-      both_and _ _ f (both_and _ _ (ap A.legal (digits_div a low) ∙ p) (ap B.legal (digits_mod a low) ∙ q))
+      and_from _ _ f (and_from _ _ (ap A.legal (digits_div a low) ∙ p) (ap B.legal (digits_mod a low) ∙ q))
 
   pub rank_code : Lawful B → fits A B ≡ true → (a b : ℕ) → A.legal a ≡ true → B.legal b ≡ true → (plus A B).rank (code_of B a b) ≡ A.rank a + B.rank b
   rank_code l f a b p q =
@@ -141,14 +127,14 @@ module _ (A B : Rules) where
     pub plus_lawful : Lawful (plus A B)
     unfolding Falls
     plus_lawful = record {
-      limit_low = either (λ l. 1 ≤ l) (fits A B) 1 (λ _. mul-pos la.limit_low lb.limit_low) (omega arith);
-      limit_high = either (λ l. l ≤ 2 ^ 60) (fits A B) 1 (λ e. (fit e).limits) (omega arith);
-      width_high = either (λ l. l ≤ 256) (fits A B) 0 (λ e. (fit e).widths) (omega arith);
-      depth_high = either (λ l. l ≤ 96) (fits A B) 0 (λ e. (fit e).depths) (omega arith);
+      limit_low = cond_both (fits A B) _ 1 (λ l. 1 ≤ l) (λ _. mul-pos la.limit_low lb.limit_low) (λ _. omega arith);
+      limit_high = cond_both (fits A B) _ 1 (λ l. l ≤ 2 ^ 60) (λ e. (fit e).limits) (λ _. omega arith);
+      width_high = cond_both (fits A B) _ 0 (λ l. l ≤ 256) (λ e. (fit e).widths) (λ _. omega arith);
+      depth_high = cond_both (fits A B) _ 0 (λ l. l ≤ 96) (λ e. (fit e).depths) (λ _. omega arith);
       below = sum_below;
-      narrow = λ s n. either (λ ms. length ms ≤ (plus A B).width) (legal_both A B n) [] (sum_narrow s n) (omega arith);
-      shallow = λ n. either (λ r. r ≤ (plus A B).depth) (legal_both A B n) 0 (sum_shallow n) (omega arith);
-      falls = λ s n. either (AllByRecursion (Falls n)) (legal_both A B n) [] (falls_both s n) tt;
+      narrow = λ s n. cond_both (legal_both A B n) _ [] (λ ms. length ms ≤ (plus A B).width) (sum_narrow s n) (λ _. omega arith);
+      shallow = λ n. cond_both (legal_both A B n) _ 0 (λ r. r ≤ (plus A B).depth) (sum_shallow n) (λ _. omega arith);
+      falls = λ s n. cond_both (legal_both A B n) _ [] (AllByRecursion (Falls n)) (falls_both s n) (λ _. tt);
       no_moves = λ s n e. ap (λ b. cond b (moves_in A B s (first_code B n) (second_code B n)) []) e;
       no_rank = λ n e. ap (λ b. cond b (A.rank (first_code B n) + B.rank (second_code B n)) 0) e;
     }

@@ -4,6 +4,7 @@ use Rattle.std.specs.Prelude.{ℕ, ◌+◌, ◌*◌, ◌/◌, ◌%◌, ◌^◌, 
 use Rattle.games.specs.declared.side.Side.{Side}
 use Rattle.games.specs.Sides.{other}
 use Rattle.rulesets.specs.Rules.{Rules}
+use Rattle.sums.specs.declared.sum.Bounds.{Bounds}
 
 -- Minus: the same positions, the sides swapped.
 abbrev pub minus : Rules → Rules
@@ -12,6 +13,10 @@ minus R = record { limit = R.limit; width = R.width; depth = R.depth; legal = R.
 -- The sum keeps to the bounds of a ruleset, where limits multiply, and widths and depths add.
 abbrev pub fits : Rules → Rules → Bool
 fits A B = nat_le (A.limit * B.limit) (2 ^ 60) && (nat_le (A.width + B.width) 256 && nat_le (A.depth + B.depth) 96)
+
+-- The limit, width and depth of a sum that fits.
+abbrev pub sum_bounds : Rules → Rules → Option Bounds
+sum_bounds A B = cond (fits A B) (Some (record { limit = A.limit * B.limit; width = A.width + B.width; depth = A.depth + B.depth })) None
 
 -- A code of the sum is a × (limit of the second) + b, where a and b are the parts' codes; it is legal where both are and the parts fit.
 abbrev pub first_code : Rules → ℕ → ℕ

@@ -3,7 +3,7 @@ ghost use Rattle.std.specs.Prelude.{◌≡◌, true, false, IfOk, MatchResult};
 ghost use Rattle.games.specs.Laws.{SumReads};
 ghost use Rattle.rulesets.specs.declared.fault.SumFault.TheVariants.{Large};
 ghost use Rattle.sums.specs.Laws.{SumAdds};
-ghost use Rattle.sums.specs.Sums.{fits, part_codes, plus};
+ghost use Rattle.sums.specs.Sums.{fits, part_codes, plus, sum_bounds};
 ghost use Rattle.sums.specs.Parts.{plus_lawful};
 
 use games::side::Side;
@@ -23,16 +23,27 @@ pub struct Sum<A, B> {
     second: B,
 }
 
-// Whether the sum keeps to the bounds of a ruleset.
-fn fit<A: Ruleset, B: Ruleset>(first: &A, second: &B) -> bool
-    ensures { result ≡ fits (A.Ruleset.rules first.now) (B.Ruleset.rules second.now) }
+// The numbers that a ruleset keeps to.
+#[derive(Clone, Copy)]
+struct Bounds {
+    limit: u64,
+    width: usize,
+    depth: usize,
+}
+
+// The numbers of the sum, where they keep to the bounds of a ruleset: limits multiply, widths and depths add.
+fn sum_bounds<A: Ruleset, B: Ruleset>(first: &A, second: &B) -> Option<Bounds>
+    ensures { result ≡ sum_bounds (A.Ruleset.rules first.now) (B.Ruleset.rules second.now) }
 {
-    match first.limit().checked_mul(second.limit()) {
-        Some(limit) => limit <= MOST_CODES
-            && first.width() + second.width() <= MOST_MOVES
-            && first.depth() + second.depth() <= MOST_DEPTH,
-        None => false,
-    }
+    let limit = first.limit().checked_mul(second.limit())?;
+    let width = first.width() + second.width();
+    let depth = first.depth() + second.depth();
+    let fits = limit <= MOST_CODES && width <= MOST_MOVES && depth <= MOST_DEPTH;
+    fits.then_some(Bounds {
+        limit,
+        width,
+        depth,
+    })
 }
 
 impl<A: Ruleset, B: Ruleset> Sum<A, B> {
@@ -45,23 +56,29 @@ impl<A: Ruleset, B: Ruleset> Sum<A, B> {
         ensures adds { IfOk result (λ s. SumAdds (A.Ruleset.rules s.first) (B.Ruleset.rules s.second)) }
         ensures forms { SumReads }
     {
-        if !fit(&first, &second) {
+        if sum_bounds(&first, &second).is_none() {
             return Err(SumFault::Large);
         }
         Ok(Sum { first, second })
+    }
+
+    // The numbers of this sum, where they keep to the bounds.
+    fn bounds(&self) -> Option<Bounds>
+        ensures { result ≡ sum_bounds (A.Ruleset.rules self.now.first) (B.Ruleset.rules self.now.second) }
+    {
+        sum_bounds(&self.first, &self.second)
     }
 
     // The parts' codes, where both are legal and the parts fit.
     fn parts(&self, code: u64) -> Option<(u64, u64)>
         ensures { result ≡ part_codes (A.Ruleset.rules self.now.first) (B.Ruleset.rules self.now.second) code }
     {
+        self.bounds()?;
         let base = self.second.limit();
         let first = code / base;
         let second = code % base;
-        let legal = fit(&self.first, &self.second)
-            && self.first.is_legal(first)
-            && self.second.is_legal(second);
-        if legal { Some((first, second)) } else { None }
+        let legal = self.first.is_legal(first) && self.second.is_legal(second);
+        legal.then_some((first, second))
     }
 }
 
@@ -71,27 +88,15 @@ impl<A: Ruleset, B: Ruleset> Ruleset for Sum<A, B> {
     ghost lawful = { λ s. plus_lawful _ _ (A.Ruleset.lawful s.first) (B.Ruleset.lawful s.second) };
 
     fn limit(&self) -> u64 {
-        if fit(&self.first, &self.second) {
-            self.first.limit() * self.second.limit()
-        } else {
-            1
-        }
+        self.bounds().map_or(1, |bounds| bounds.limit)
     }
 
     fn width(&self) -> usize {
-        if fit(&self.first, &self.second) {
-            self.first.width() + self.second.width()
-        } else {
-            0
-        }
+        self.bounds().map_or(0, |bounds| bounds.width)
     }
 
     fn depth(&self) -> usize {
-        if fit(&self.first, &self.second) {
-            self.first.depth() + self.second.depth()
-        } else {
-            0
-        }
+        self.bounds().map_or(0, |bounds| bounds.depth)
     }
 
     fn is_legal(&self, code: u64) -> bool {
@@ -99,17 +104,14 @@ impl<A: Ruleset, B: Ruleset> Ruleset for Sum<A, B> {
     }
 
     fn rank(&self, code: u64) -> usize {
-        match self.parts(code) {
-            Some((a, b)) => self.first.rank(a) + self.second.rank(b),
-            None => 0,
-        }
+        self.parts(code)
+            .map_or(0, |(a, b)| self.first.rank(a) + self.second.rank(b))
     }
 
     fn count(&self, side: Side, code: u64) -> usize {
-        match self.parts(code) {
-            Some((a, b)) => self.first.count(side, a) + self.second.count(side, b),
-            None => 0,
-        }
+        self.parts(code).map_or(0, |(a, b)| {
+            self.first.count(side, a) + self.second.count(side, b)
+        })
     }
 
     fn successor(&self, side: Side, code: u64, index: usize) -> Option<u64> {

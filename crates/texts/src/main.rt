@@ -1,10 +1,10 @@
 // Texts over each store: what is wrong with a text, what it is read as, and what is found in a frozen dictionary.
 #![tactic(auto)]
 
+use demos::shown::{Demo, Shown, begin, over_both};
+use demos::told::text;
 use dictionary::dictionary::Dictionary;
 use dictionary::frozen::Frozen;
-use hashed_store::table::HashTable;
-use ordered_store::ordered::OrderedList;
 use reading::check::check;
 use reading::look_up::look_up;
 use reading::read::read;
@@ -62,51 +62,38 @@ const LOOKED_UP: [&'static str; 10] = [
     "{|{|}}}",
 ];
 
-fn main(rt: HostRuntime) -> anyhow::Result<()> {
-    run(&rt)
+// What is shown over each store.
+#[derive(Clone, Copy)]
+enum Part {
+    OneRow,
+    Reads,
+    Extremes,
+    NoNodes,
+    LookUps,
 }
 
-fn run(rt: &HostRuntime) -> anyhow::Result<()> {
-    checks(rt)?;
-    if let Ok(store) = OrderedList::new(rt.alloc(), 1) {
-        println!(rt; "an ordered list of 1 row")?;
-        one_row(rt, store)?;
+impl Demo for Part {
+    fn over<S: Shown>(&self, rt: &HostRuntime) -> anyhow::Result<()> {
+        match self {
+            Part::OneRow => one_row::<S>(rt),
+            Part::Reads => reads::<S>(rt),
+            Part::Extremes => extremes::<S>(rt),
+            Part::NoNodes => no_nodes::<S>(rt),
+            Part::LookUps => look_ups::<S>(rt),
+        }
     }
-    if let Ok(store) = HashTable::new(rt.alloc(), 1) {
-        println!(rt; "a hash-consed table of 1 row")?;
-        one_row(rt, store)?;
-    }
-    if let Ok(store) = OrderedList::new(rt.alloc(), 4) {
-        println!(rt; "reading into an ordered list of 4 rows")?;
-        reads(rt, store)?;
-    }
-    if let Ok(store) = HashTable::new(rt.alloc(), 4) {
-        println!(rt; "reading into a hash-consed table of 4 rows")?;
-        reads(rt, store)?;
-    }
-    if let Ok(store) = OrderedList::new(rt.alloc(), 384) {
-        println!(rt; "deep and wide forms, over an ordered list")?;
-        extremes(rt, store)?;
-    }
-    if let Ok(store) = HashTable::new(rt.alloc(), 384) {
-        println!(rt; "deep and wide forms, over a hash-consed table")?;
-        extremes(rt, store)?;
-    }
-    if let Ok(store) = OrderedList::new(rt.alloc(), 1) {
-        println!(rt; "looking up among no nodes, over an ordered list")?;
-        no_nodes(rt, store)?;
-    }
-    if let Ok(store) = HashTable::new(rt.alloc(), 1) {
-        println!(rt; "looking up among no nodes, over a hash-consed table")?;
-        no_nodes(rt, store)?;
-    }
-    if let Ok(store) = OrderedList::new(rt.alloc(), 4) {
-        println!(rt; "looking up over an ordered list")?;
-        look_ups(rt, store)?;
-    }
-    if let Ok(store) = HashTable::new(rt.alloc(), 4) {
-        println!(rt; "looking up over a hash-consed table")?;
-        look_ups(rt, store)?;
+}
+
+fn main(rt: HostRuntime) -> anyhow::Result<()> {
+    checks(&rt)?;
+    for part in [
+        Part::OneRow,
+        Part::Reads,
+        Part::Extremes,
+        Part::NoNodes,
+        Part::LookUps,
+    ] {
+        over_both(&rt, &part)?;
     }
     Ok(())
 }
@@ -123,55 +110,55 @@ fn checks(rt: &HostRuntime) -> anyhow::Result<()> {
 }
 
 // The earliest bracket for which there is no room.
-fn one_row<S: Store + Drop>(rt: &HostRuntime, store: S) -> anyhow::Result<()> {
-    let mut dictionary = Dictionary::begin(rt.alloc(), store)?;
+fn one_row<S: Shown>(rt: &HostRuntime) -> anyhow::Result<()> {
+    println!(rt; "{} of 1 row", S::NAME)?;
+    let mut dictionary = begin::<S>(rt.alloc(), 1)?;
     show_read(rt, &mut dictionary, "{{|}|}", b"{{|}|}")?;
     let frozen = dictionary.freeze();
-    show_look_up(rt, &frozen, "{|}", b"{|}")?;
-    show_look_up(rt, &frozen, "{{|}|}", b"{{|}|}")
+    for text in ["{|}", "{{|}|}"] {
+        show_look_up(rt, &frozen, text, text.as_bytes())?;
+    }
+    Ok(())
 }
 
 // Reads the texts, and then reads back what is printed for each node.
-fn reads<S: Store + Drop>(rt: &HostRuntime, store: S) -> anyhow::Result<()> {
-    let mut dictionary = Dictionary::begin(rt.alloc(), store)?;
+fn reads<S: Shown>(rt: &HostRuntime) -> anyhow::Result<()> {
+    println!(rt; "reading into {} of 4 rows", S::NAME)?;
+    let mut dictionary = begin::<S>(rt.alloc(), 4)?;
     for text in READ {
         show_read(rt, &mut dictionary, text, text.as_bytes())?;
     }
     for node in 0..4 {
-        let mut line = [0; 64];
-        if let Ok(length) = dictionary.print(node, &mut line) {
-            if let Some(text) = line.get(0..length) {
-                show_read(rt, &mut dictionary, "read back", text)?;
-            }
+        if let Ok(text) = text(&dictionary, node, &mut [0; 64]) {
+            show_read(rt, &mut dictionary, "read back", text)?;
         }
     }
     Ok(())
 }
 
-fn extremes<S: Store + Drop>(rt: &HostRuntime, store: S) -> anyhow::Result<()> {
-    let mut dictionary = Dictionary::begin(rt.alloc(), store)?;
-    let text = repeated(rt, 97)?;
-    show_read(rt, &mut dictionary, "97 deep", &text)?;
-    let text = repeated(rt, 96)?;
-    show_read(rt, &mut dictionary, "96 deep", &text)?;
-    show_read(rt, &mut dictionary, "and again", &text)?;
-    let text = switches(rt, 16, false)?;
-    show_read(rt, &mut dictionary, "16 options", &text)?;
-    let text = switches(rt, 17, false)?;
-    show_read(rt, &mut dictionary, "17 options", &text)?;
-    let text = switches(rt, 17, true)?;
-    show_read(rt, &mut dictionary, "17 options inside", &text)?;
-    Ok(())
+fn extremes<S: Shown>(rt: &HostRuntime) -> anyhow::Result<()> {
+    println!(rt; "deep and wide forms, over {}", S::NAME)?;
+    let mut dictionary = begin::<S>(rt.alloc(), 384)?;
+    for (name, depth) in [("97 deep", 97), ("96 deep", 96), ("and again", 96)] {
+        show_read(rt, &mut dictionary, name, number(rt, depth)?.as_bytes())?;
+    }
+    for (name, count) in [("16 options", 16), ("17 options", 17)] {
+        show_read(rt, &mut dictionary, name, switches(rt, count)?.as_bytes())?;
+    }
+    let inside = format!(in rt.alloc(); "{{{}|}}", switches(rt, 17)?)?;
+    show_read(rt, &mut dictionary, "17 options inside", inside.as_bytes())
 }
 
 // The earliest bracket that is no node's.
-fn no_nodes<S: Store + Drop>(rt: &HostRuntime, store: S) -> anyhow::Result<()> {
-    let frozen = Dictionary::begin(rt.alloc(), store)?.freeze();
+fn no_nodes<S: Shown>(rt: &HostRuntime) -> anyhow::Result<()> {
+    println!(rt; "looking up among no nodes, over {}", S::NAME)?;
+    let frozen = begin::<S>(rt.alloc(), 1)?.freeze();
     show_look_up(rt, &frozen, "{{|}|}", b"{{|}|}")
 }
 
-fn look_ups<S: Store + Drop>(rt: &HostRuntime, store: S) -> anyhow::Result<()> {
-    let mut dictionary = Dictionary::begin(rt.alloc(), store)?;
+fn look_ups<S: Shown>(rt: &HostRuntime) -> anyhow::Result<()> {
+    println!(rt; "looking up over {}", S::NAME)?;
+    let mut dictionary = begin::<S>(rt.alloc(), 4)?;
     for text in ["{{{|}|}|}", "{{|}|{|}}"] {
         show_read(rt, &mut dictionary, text, text.as_bytes())?;
     }
@@ -179,14 +166,12 @@ fn look_ups<S: Store + Drop>(rt: &HostRuntime, store: S) -> anyhow::Result<()> {
     for text in LOOKED_UP {
         show_look_up(rt, &frozen, text, text.as_bytes())?;
     }
-    let text = repeated(rt, 97)?;
-    show_look_up(rt, &frozen, "97 deep", &text)?;
-    let text = repeated(rt, 96)?;
-    show_look_up(rt, &frozen, "96 deep", &text)?;
-    let text = zeros(rt, 16)?;
-    show_look_up(rt, &frozen, "16 options", &text)?;
-    let text = zeros(rt, 17)?;
-    show_look_up(rt, &frozen, "17 options", &text)?;
+    for (name, depth) in [("97 deep", 97), ("96 deep", 96)] {
+        show_look_up(rt, &frozen, name, number(rt, depth)?.as_bytes())?;
+    }
+    for (name, count) in [("16 options", 16), ("17 options", 17)] {
+        show_look_up(rt, &frozen, name, zeros(rt, count)?.as_bytes())?;
+    }
     Ok(())
 }
 
@@ -196,11 +181,8 @@ fn show_read<S: Store>(
     name: &str,
     text: &[u8],
 ) -> anyhow::Result<()> {
-    match read(dictionary, text) {
-        Ok(node) => println!(rt; "{name}: node {node}")?,
-        Err(fault) => println!(rt; "{name}: {} at {}", fault.number(), fault.place())?,
-    }
-    Ok(())
+    let node = read(dictionary, text).map_err(|fault| (fault.number(), fault.place()));
+    show_node(rt, name, node)
 }
 
 fn show_look_up<S: Store>(
@@ -209,83 +191,75 @@ fn show_look_up<S: Store>(
     name: &str,
     text: &[u8],
 ) -> anyhow::Result<()> {
-    match look_up(frozen, text) {
+    let node = look_up(frozen, text).map_err(|fault| (fault.number(), fault.place()));
+    show_node(rt, name, node)
+}
+
+// The node of a text, or the number of its fault and the place.
+fn show_node(rt: &HostRuntime, name: &str, node: Result<u16, (u8, usize)>) -> anyhow::Result<()> {
+    match node {
         Ok(node) => println!(rt; "{name}: node {node}")?,
-        Err(fault) => println!(rt; "{name}: {} at {}", fault.number(), fault.place())?,
+        Err((number, place)) => println!(rt; "{name}: {number} at {place}")?,
     }
     Ok(())
 }
 
-// A text nested so deep: the number below that depth.
-fn repeated(rt: &HostRuntime, depth: usize) -> Result<Vec<u8>, AllocError> {
-    let mut text = Vec::new(rt.alloc());
-    number(&mut text, depth)?;
+// {|}, {{|}|}, {{{|}|}|} and so on, nested so deep: the number below that depth.
+fn number(rt: &HostRuntime, depth: usize) -> Result<String, AllocError> {
+    let mut text = String::new(rt.alloc());
+    push_number(&mut text, depth)?;
     Ok(text)
 }
 
-// {|}, {{|}|}, {{{|}|}|} and so on.
-fn number(text: &mut Vec<u8>, depth: usize) -> Result<(), AllocError> {
-    for _ in 0..depth {
-        text.push(b'{')?;
-    }
-    for _ in 0..depth {
-        text.push(b'|')?;
-        text.push(b'}')?;
-    }
-    Ok(())
+fn push_number(text: &mut String, depth: usize) -> Result<(), AllocError> {
+    push_times(text, "{", depth)?;
+    push_times(text, "|}", depth)
 }
 
 // {|}, {|{|}}, {|{|{|}}} and so on.
-fn minus_number(text: &mut Vec<u8>, depth: usize) -> Result<(), AllocError> {
-    for _ in 0..depth {
-        text.push(b'{')?;
-        text.push(b'|')?;
-    }
-    for _ in 0..depth {
-        text.push(b'}')?;
+fn push_minus(text: &mut String, depth: usize) -> Result<(), AllocError> {
+    push_times(text, "{|", depth)?;
+    push_times(text, "}", depth)
+}
+
+fn push_times(text: &mut String, part: &str, times: usize) -> Result<(), AllocError> {
+    for _ in 0..times {
+        text.push_str(part)?;
     }
     Ok(())
 }
 
-// The switches {1|-1}, {2|-2} and so on as Left options, none of which is as good as another, and -18 as the Right option;
-// or this form as the Left option of another.
-fn switches(rt: &HostRuntime, count: usize, inside: bool) -> Result<Vec<u8>, AllocError> {
-    let mut text = Vec::new(rt.alloc());
-    if inside {
-        text.push(b'{')?;
-    }
-    text.push(b'{')?;
-    for k in 0..count.min(100) {
-        if k > 0 {
-            text.push(b',')?;
+// The switches {1|-1}, {2|-2} and so on as Left options, none of which is as good as another, and -18 as the Right option.
+fn switches(rt: &HostRuntime, count: u8) -> Result<String, AllocError> {
+    let mut text = String::new(rt.alloc());
+    text.push_str("{")?;
+    for switch in 0..count {
+        if switch > 0 {
+            text.push_str(",")?;
         }
-        text.push(b'{')?;
-        number(&mut text, k + 2)?;
-        text.push(b'|')?;
-        minus_number(&mut text, k + 2)?;
-        text.push(b'}')?;
+        let depth = usize::from(switch) + 2;
+        text.push_str("{")?;
+        push_number(&mut text, depth)?;
+        text.push_str("|")?;
+        push_minus(&mut text, depth)?;
+        text.push_str("}")?;
     }
-    text.push(b'|')?;
-    minus_number(&mut text, 19)?;
-    text.push(b'}')?;
-    if inside {
-        text.push(b'|')?;
-        text.push(b'}')?;
-    }
+    text.push_str("|")?;
+    push_minus(&mut text, 19)?;
+    text.push_str("}")?;
     Ok(text)
 }
 
 // So many zeros as Left options.
-fn zeros(rt: &HostRuntime, count: usize) -> Result<Vec<u8>, AllocError> {
-    let mut text = Vec::new(rt.alloc());
-    text.push(b'{')?;
-    for k in 0..count {
-        if k > 0 {
-            text.push(b',')?;
+fn zeros(rt: &HostRuntime, count: usize) -> Result<String, AllocError> {
+    let mut text = String::new(rt.alloc());
+    text.push_str("{")?;
+    for index in 0..count {
+        if index > 0 {
+            text.push_str(",")?;
         }
-        number(&mut text, 1)?;
+        text.push_str("{|}")?;
     }
-    text.push(b'|')?;
-    text.push(b'}')?;
+    text.push_str("|}")?;
     Ok(text)
 }

@@ -1,24 +1,27 @@
 -- The words of a strip mark what they are said to mark.
 -- Assumes nothing.
-use Rattle.std.proofs.Common.{◌≡◌, ℕ, zero, suc, ◌+◌, ◌-◌, ◌*◌, ◌/◌, ◌%◌, ◌^◌, ◌<◌, ◌≤◌, Bool, true, false, cond, not, ◌&&◌, ◌||◌, eqb, ltb, List, [], map, length, Some, None, Option, sym, refl, ap, ◌∙◌, ap₂, inl, inr, arith}
+use Rattle.std.proofs.Common.{◌≡◌, ℕ, zero, suc, ◌+◌, ◌-◌, ◌*◌, ◌/◌, ◌%◌, ◌^◌, ◌<◌, ◌≤◌, Bool, true, false, cond, not, ◌&&◌, ◌||◌, eqb, ltb, List, [], map, length, Some, None, Ok, Err, Option, Result, sym, refl, ap, ◌∙◌, ap₂, inl, inr, arith}
 use native.Mathlib.Nat.{pow-le-pow_right}
 use lib.Bits.{bit_and, bit_or, bit_xor}
-use Rattle.std.specs.List.{slice_get}
+use Rattle.std.specs.List.{list_all, slice_get}
 use Rattle.std.specs.Option.{option_map}
+use Rattle.std.specs.Result.{IsOk}
 use Rattle.std.proofs.ByRecursion.{All-get_or}
 use Rattle.std.proofs.lemmas.List.{length-map}
+use Rattle.std.proofs.lemmas.Option.{slice_get-map}
 use Rattle.std.proofs.lemmas.Nat.{and_le_r, pow_pos}
 use Rattle.std.proofs.lemmas.Bool.{cases_eq, cases_lt, and_parts, eq-eqb, ne_eqb, eqb-false, lt-ltb, le-ltb, ltb-true}
 use Rattle.bits.specs.Bits.{bit, places}
 use Rattle.bits.specs.Digits.{digit}
 use Rattle.bits.proofs.Words.{bit_and_lem, bit_or_lem, bit_mask, bit_next, bit_none, one_shl_64, some_bit}
-use Rattle.bits.proofs.Places.{all_places, places_more, nth_map}
+use Rattle.bits.proofs.Places.{all_places, places_more}
 use Rattle.bits.proofs.Digits.{digit_low, digit_high, digit_small, digit_past, four_pow}
 use Rattle.games.specs.declared.side.Side.{Side}
 use Rattle.games.specs.declared.side.Side.TheVariants.{Left, Right}
 use Rattle.rulesets.proofs.Positions.{nth_some}
-use Rattle.toads.specs.Cells.{Cell, Empty, Toad, Frog, digit_of}
-use Rattle.toads.specs.Toads.{cells, every, legal, holds, can_move, after, toads}
+use Rattle.toads.specs.declared.cell.NoCell.{NoCell}
+use Rattle.toads.specs.Cells.{Cell, Empty, Toad, Frog, digit_of, DigitRead}
+use Rattle.toads.specs.Toads.{cells, legal, holds, can_move, after, toads}
 use Rattle.toads.specs.Marks.{Marks}
 use Rattle.toads.specs.Moves.{every_cell, every_from}
 use Rattle.toads.proofs.Marking.{marks_evens, marks_and, marks_or, marks_xor, marks_same, marks_down, marks_up, marked_places}
@@ -86,27 +89,33 @@ module _ (n w : ℕ) (all : Marks w (λ i. ltb i n)) where
       and_true true = refl
       and_true false = refl
 
-module _ (n c w : ℕ) (ok : legal n c ≡ true) (all : Marks w (λ i. ltb i n)) where
-  no_three : (i : ℕ) → i < n → digit c i < 3
-  no_three i h = ltb-true (digit c i) 3 (every_cell (λ d. ltb d 3) c 0 n i (and_parts (ltb c (4 ^ n)) _ ok).1 (omega arith) (omega arith))
+-- no cell of a legal code has digit 3
+pub no_three : (n c : ℕ) → legal n c ≡ true → (i : ℕ) → i < n → digit c i < 3
+no_three n c ok i h = ltb-true (digit c i) 3 (every_cell (λ d. ltb d 3) c 0 n i (and_parts (ltb c (4 ^ n)) _ ok).1 (omega arith) (omega arith))
 
+-- a digit below 3 is that of a cell
+pub digit_held : (d : ℕ) (r : Result Cell NoCell) → DigitRead d r → d < 3 → IsOk r
+digit_held d (Ok x) e h = refl
+digit_held d (Err _) e h = absurd (omega arith)
+
+module _ (n c w : ℕ) (ok : legal n c ≡ true) (all : Marks w (λ i. ltb i n)) where
   pub toads_marked : Marks (bit_and c w) (holds n c Toad)
-  toads_marked = by_digits n w all c (λ i. eqb (digit c i) 1) (λ i h. digit_low c i ∙ low_toad (digit c i) (no_three i h))
+  toads_marked = by_digits n w all c (λ i. eqb (digit c i) 1) (λ i h. digit_low c i ∙ low_toad (digit c i) (no_three n c ok i h))
 
   pub frogs_marked : Marks (bit_and (c / 2) w) (holds n c Frog)
-  frogs_marked = by_digits n w all (c / 2) (λ i. eqb (digit c i) 2) (λ i h. sym (bit_next c (i + i)) ∙ digit_high c i ∙ high_frog (digit c i) (no_three i h))
+  frogs_marked = by_digits n w all (c / 2) (λ i. eqb (digit c i) 2) (λ i h. sym (bit_next c (i + i)) ∙ digit_high c i ∙ high_frog (digit c i) (no_three n c ok i h))
 
   pub empty_marked : Marks (bit_xor (bit_and (bit_or c (c / 2)) w) w) (holds n c Empty)
   empty_marked =
       let piece = λ (i : ℕ). eqb (digit c i) 1 || eqb (digit c i) 2 in
       let taken : Marks (bit_and (bit_or c (c / 2)) w) (λ i. ltb i n && piece i) = by_digits n w all (bit_or c (c / 2)) piece (λ i h.
-      bit_or_lem c (c / 2) (i + i) ∙ ap₂ ◌||◌ (digit_low c i ∙ low_toad (digit c i) (no_three i h)) (sym (bit_next c (i + i)) ∙ digit_high c i ∙ high_frog (digit c i) (no_three i h))) in
+      bit_or_lem c (c / 2) (i + i) ∙ ap₂ ◌||◌ (digit_low c i ∙ low_toad (digit c i) (no_three n c ok i h)) (sym (bit_next c (i + i)) ∙ digit_high c i ∙ high_frog (digit c i) (no_three n c ok i h))) in
       marks_same (bit_xor (bit_and (bit_or c (c / 2)) w) w) (λ i. cond (ltb i n && piece i) (not (ltb i n)) (ltb i n)) (holds n c Empty) outside
       (marks_xor (bit_and (bit_or c (c / 2)) w) w (λ i. ltb i n && piece i) (λ i. ltb i n) taken all)
     where
       outside : (i : ℕ) → cond (ltb i n && (eqb (digit c i) 1 || eqb (digit c i) 2)) (not (ltb i n)) (ltb i n) ≡ (ltb i n && eqb (digit c i) 0)
       outside i = elim (cases_lt i n) [
-        | inl h ↦ rw (lt-ltb i n h) (turned (eqb (digit c i) 1 || eqb (digit c i) 2) ∙ neither_empty (digit c i) (no_three i h))
+        | inl h ↦ rw (lt-ltb i n h) (turned (eqb (digit c i) 1 || eqb (digit c i) 2) ∙ neither_empty (digit c i) (no_three n c ok i h))
         | inr h ↦ rw (le-ltb i n h)
       ]
         where
@@ -199,13 +208,13 @@ module _ (n c : ℕ) (few : n ≤ 12) (below : c < 4 ^ n) where
   threes_marked = by_digits 32 6148914691236517205 (marks_evens 32) (bit_and c (c / 2)) (λ i. eqb (digit c i) 3) (λ i h.
       bit_and_lem c (c / 2) (i + i) ∙ ap₂ ◌&&◌ (digit_low c i) (sym (bit_next c (i + i)) ∙ digit_high c i) ∙ both_bits (digit c i) (digit_small c i))
 
-  no_three_here : every (λ d. ltb d 3) (cells n c) ≡ true → (i : ℕ) → eqb (digit c i) 3 ≡ false
+  no_three_here : list_all (λ d. ltb d 3) (cells n c) ≡ true → (i : ℕ) → eqb (digit c i) 3 ≡ false
   no_three_here ok i = elim (cases_lt i n) [
     | inl h ↦ ne_eqb (digit c i) 3 (λ e. let k = ltb-true (digit c i) 3 (every_cell (λ d. ltb d 3) c 0 n i ok (omega arith) (omega arith)) in omega arith)
     | inr h ↦ ap (λ d. eqb d 3) (digit_past n c i below h)
   ]
 
-  all_legal : every (λ d. ltb d 3) (cells n c) ≡ true → threes ≡ 0
+  all_legal : list_all (λ d. ltb d 3) (cells n c) ≡ true → threes ≡ 0
   all_legal ok = elim (cases_eq threes 0) [
     | inl e ↦ e
     | inr e ↦
@@ -221,7 +230,7 @@ module _ (n c : ℕ) (few : n ≤ 12) (below : c < 4 ^ n) where
       clash : true ≡ false → ⊥
       clash e = let z : ◌≡◌ {A = ℕ} 0 1 = cc in omega arith
 
-  legal_all : threes ≡ 0 → every (λ d. ltb d 3) (cells n c) ≡ true
+  legal_all : threes ≡ 0 → list_all (λ d. ltb d 3) (cells n c) ≡ true
   legal_all e = every_from (λ d. ltb d 3) c 0 n (λ i l h.
       let even : (i + i) % 2 ≡ 0 = omega arith in
       let half : (i + i) / 2 ≡ i = omega arith in
@@ -233,9 +242,9 @@ module _ (n c : ℕ) (few : n ≤ 12) (below : c < 4 ^ n) where
       lt-ltb (digit c i) 3 (let k = eqb-false (digit c i) 3 b in omega arith))
 
   pub legal_test : eqb threes 0 ≡ legal n c
-  legal_test = go (every (λ d. ltb d 3) (cells n c)) refl
+  legal_test = go (list_all (λ d. ltb d 3) (cells n c)) refl
     where
-      go : (b : Bool) → every (λ d. ltb d 3) (cells n c) ≡ b → eqb threes 0 ≡ legal n c
+      go : (b : Bool) → list_all (λ d. ltb d 3) (cells n c) ≡ b → eqb threes 0 ≡ legal n c
       go true e = rw (lt-ltb c (4 ^ n) below, e) (eq-eqb threes 0 (all_legal e))
       go false e = rw (lt-ltb c (4 ^ n) below, e) (ne_eqb threes 0 (λ z. clash (sym (legal_all z) ∙ e)))
         where
@@ -272,21 +281,21 @@ module _ (n c : ℕ) (s : Side) (w : ℕ) (few : n ≤ 12) (marked : Marks w (ca
       ps = places n (can_move n c s)
 
       found : (o : Option ℕ) → slice_get (places n (can_move n c s)) index ≡ o → MoverAt index place
-      found None f = let z : ◌≡◌ {A = ℕ} 0 1 = (let g : Some place ≡ None = e ∙ ap (λ xs. slice_get xs index) mover_places ∙ nth_map (λ i. i + i) (places n (can_move n c s)) index ∙ ap (option_map (λ i. i + i)) f in cc) in absurd (omega arith)
+      found None f = let z : ◌≡◌ {A = ℕ} 0 1 = (let g : Some place ≡ None = e ∙ ap (λ xs. slice_get xs index) mover_places ∙ slice_get-map (λ i. i + i) (places n (can_move n c s)) index ∙ ap (option_map (λ i. i + i)) f in cc) in absurd (omega arith)
       found (Some i) f =
-          let g : Some place ≡ Some (i + i) = e ∙ ap (λ xs. slice_get xs index) mover_places ∙ nth_map (λ i. i + i) (places n (can_move n c s)) index ∙ ap (option_map (λ i. i + i)) f in
+          let g : Some place ≡ Some (i + i) = e ∙ ap (λ xs. slice_get xs index) mover_places ∙ slice_get-map (λ i. i + i) (places n (can_move n c s)) index ∙ ap (option_map (λ i. i + i)) f in
           let p : place ≡ i + i = cc in
           let half : place / 2 ≡ i = omega arith in
           let (h, k) = nth_some (places n (can_move n c s)) index i (sym f) in
           let m = All-get_or (λ i. (i < n) × (can_move n c s i ≡ true)) (places n (can_move n c s)) index 0 h (all_places n (can_move n c s)) in
           record {
             moves = rw half (rw k at m.1);
-            leads = rw half (sym (ap (λ b. slice_get (cond b (map (after n c s) (places n (can_move n c s))) []) index) ok ∙ nth_map (after n c s) (places n (can_move n c s)) index ∙ ap (option_map (after n c s)) f));
+            leads = rw half (sym (ap (λ b. slice_get (cond b (map (after n c s) (places n (can_move n c s))) []) index) ok ∙ slice_get-map (after n c s) (places n (can_move n c s)) index ∙ ap (option_map (after n c s)) f));
           }
 
   pub mover_none : legal n c ≡ true → (index : ℕ) → None ≡ slice_get (places 64 (bit w)) index → None ≡ slice_get ((toads n).moves s c) index
   mover_none ok index e = found (slice_get (places n (can_move n c s)) index) refl
     where
       found : (o : Option ℕ) → slice_get (places n (can_move n c s)) index ≡ o → None ≡ slice_get ((toads n).moves s c) index
-      found None f = sym (ap (λ b. slice_get (cond b (map (after n c s) (places n (can_move n c s))) []) index) ok ∙ nth_map (after n c s) (places n (can_move n c s)) index ∙ ap (option_map (after n c s)) f)
-      found (Some i) f = let z : ◌≡◌ {A = ℕ} 0 1 = (let g : None ≡ Some (i + i) = e ∙ ap (λ xs. slice_get xs index) mover_places ∙ nth_map (λ i. i + i) (places n (can_move n c s)) index ∙ ap (option_map (λ i. i + i)) f in cc) in absurd (omega arith)
+      found None f = sym (ap (λ b. slice_get (cond b (map (after n c s) (places n (can_move n c s))) []) index) ok ∙ slice_get-map (after n c s) (places n (can_move n c s)) index ∙ ap (option_map (after n c s)) f)
+      found (Some i) f = let z : ◌≡◌ {A = ℕ} 0 1 = (let g : None ≡ Some (i + i) = e ∙ ap (λ xs. slice_get xs index) mover_places ∙ slice_get-map (λ i. i + i) (places n (can_move n c s)) index ∙ ap (option_map (λ i. i + i)) f in cc) in absurd (omega arith)

@@ -1,30 +1,34 @@
 -- The text of a strip: its first wrong character, and its code.
 -- Assumes nothing.
-use Rattle.std.proofs.Common.{◌≡◌, ℕ, zero, suc, ◌+◌, ◌*◌, ◌/◌, ◌%◌, ◌^◌, ◌<◌, ◌≤◌, true, false, cond, ltb, List, [], ◌∷◌, ◌++◌, map, length, get_or, take, is_some, Some, None, Option, sym, refl, ap, ◌∙◌, ap₂, pow-suc, arith}
+use Rattle.std.proofs.Common.{◌≡◌, ℕ, zero, suc, ◌+◌, ◌*◌, ◌/◌, ◌%◌, ◌^◌, ◌<◌, ◌≤◌, cond, ltb, List, [], ◌∷◌, ◌++◌, map, length, get_or, take, position, Some, None, Option, sym, refl, ap, ◌∙◌, ap₂, inl, inr, pow-suc, arith}
 use native.Mathlib.Nat.{pow-le-pow_right}
 use Rattle.std.specs.List.{range_with_len}
 use Rattle.std.specs.Option.{option_map}
 use Rattle.std.proofs.lemmas.List.{take_more, length-take}
-use Rattle.std.proofs.lemmas.Bool.{and_from, lt-ltb}
+use Rattle.std.proofs.lemmas.Bool.{cases_lt, and_from, lt-ltb, le-ltb}
 use Rattle.bits.specs.Digits.{digit}
 use Rattle.bits.proofs.Digits.{digit_first, digit_next}
 use Rattle.toads.specs.Cells.{Cell, Empty, Toad, Frog, cell_of}
-use Rattle.toads.specs.Strips.{first_wrong, digit_or_none, char_digit, code_of}
+use Rattle.toads.specs.Strips.{no_cell, first_wrong, digit_or_none, char_digit, code_of}
 use Rattle.toads.specs.Laws.{CodeReads}
 use Rattle.toads.specs.Moves.{every_from}
 use Rattle.toads.specs.LawsLemmas.{digit_up}
 
--- the search for a wrong character
-pub wrong_at : (cs : List ℕ) (i : ℕ) → i < length cs → ((k : ℕ) → k < i → is_some (cell_of (get_or cs k 0)) ≡ true) → is_some (cell_of (get_or cs i 0)) ≡ false → first_wrong cs ≡ Some i
-wrong_at [] i h ok no_cell = absurd (omega arith)
-wrong_at (c ∷ cs) zero h ok no_cell = ap (λ b. cond b (option_map suc (first_wrong cs)) (Some 0)) no_cell
-wrong_at (c ∷ cs) (suc i) h ok no_cell =
-    ap (λ b. cond b (option_map suc (first_wrong cs)) (Some 0)) (ok 0 (omega arith)) ∙ ap (option_map suc) (wrong_at cs i (omega arith) (λ k l. ok (suc k) (omega arith)) no_cell)
+-- a place in a list that has one item more in front
+place_later : (p n : ℕ) → cond (ltb (1 + p) (suc n)) (Some (1 + p)) None ≡ option_map suc (cond (ltb p n) (Some p) None)
+place_later p n = elim (cases_lt p n) [
+  | inl h ↦ rw (lt-ltb (1 + p) (suc n) (omega arith), lt-ltb p n h) (ap Some (omega arith))
+  | inr h ↦ rw (le-ltb (1 + p) (suc n) (omega arith), le-ltb p n h)
+]
 
-pub none_wrong : (cs : List ℕ) → ((k : ℕ) → k < length cs → is_some (cell_of (get_or cs k 0)) ≡ true) → first_wrong cs ≡ None
-none_wrong [] ok = refl
-none_wrong (c ∷ cs) ok =
-    ap (λ b. cond b (option_map suc (first_wrong cs)) (Some 0)) (ok 0 (omega arith)) ∙ ap (option_map suc) (none_wrong cs (λ k l. ok (suc k) (omega arith)))
+-- the first character that stands for no cell is found by its place
+pub first_wrong_is : (cs : List ℕ) → position no_cell cs ≡ first_wrong cs
+first_wrong_is [] = refl
+first_wrong_is (c ∷ cs) = go (cell_of c) refl (first_wrong_is cs)
+  where
+    go : (o : Option Cell) → cell_of c ≡ o → position no_cell cs ≡ first_wrong cs → position no_cell (c ∷ cs) ≡ first_wrong (c ∷ cs)
+    go None e rest = rw (e, lt-ltb 0 (suc (length cs)) (omega arith))
+    go (Some x) e rest = rw e (place_later _ (length cs) ∙ ap (option_map suc) rest)
 
 -- a character's digit is below 3
 digit_below : (o : Option Cell) → digit_or_none o < 3

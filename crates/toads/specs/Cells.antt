@@ -1,6 +1,8 @@
 -- The cells of a strip, as characters and as digits.
 -- Assumes nothing.
-use Rattle.std.specs.Prelude.{ℕ, cond, Some, None, Option, ◌==◌}
+use Rattle.std.specs.Prelude.{◌≡◌, ℕ, ◌<◌, cond, Some, None, Ok, Err, Option, Result, ◌==◌}
+use Rattle.std.specs.Option.{ok_or}
+use Rattle.toads.specs.declared.cell.NoCell.{NoCell}
 pub use Rattle.toads.specs.declared.cell.Cell.{Cell}
 pub use Rattle.toads.specs.declared.cell.Cell.TheVariants.{Empty, Toad, Frog}
 
@@ -13,3 +15,12 @@ abbrev pub digit_of : Cell → ℕ
 digit_of Empty = 0
 digit_of Toad = 1
 digit_of Frog = 2
+
+-- a character is read as its cell, and refused when it stands for none
+abbrev pub char_read : ℕ → Result Cell NoCell
+char_read c = ok_or (cell_of c) (record {})
+
+-- a digit is read as the cell that has it, and refused above 2
+abbrev pub DigitRead : ℕ → Result Cell NoCell → Type 0
+DigitRead d (Ok x) = digit_of x ≡ d
+DigitRead d (Err _) = 2 < d

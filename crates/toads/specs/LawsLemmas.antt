@@ -203,23 +203,20 @@ piece_small Left = omega arith
 piece_small Right = omega arith
 
 -- so the words hold a move
-module _ (n c : ℕ) (s : Side) (i d : ℕ) (few : n ≤ 12) (ok : legal n c ≡ true) (h : can_move n c s i ≡ true) (is : d ≡ digit_of (piece s)) where
-  small : d < 3
-  small = rw is (piece_small s)
+module _ (n c : ℕ) (s : Side) (i : ℕ) (few : n ≤ 12) (ok : legal n c ≡ true) (h : can_move n c s i ≡ true) where
+  up_from : digit_of (piece s) * 2 ^ (2 * i) % 18446744073709551616 ≡ digit_of (piece s) * 4 ^ i
+  up_from = let g = (move_goes n c s i h).off in digit_up (digit_of (piece s)) i (piece_small s) (omega arith)
 
-  up_from : d * 2 ^ (2 * i) % 18446744073709551616 ≡ d * 4 ^ i
-  up_from = let g = (move_goes n c s i h).off in digit_up d i small (omega arith)
+  up_to : digit_of (piece s) * 2 ^ (2 * target n c s i) % 18446744073709551616 ≡ digit_of (piece s) * 4 ^ target n c s i
+  up_to = let g = (move_goes n c s i h).on in digit_up (digit_of (piece s)) (target n c s i) (piece_small s) (omega arith)
 
-  up_to : d * 2 ^ (2 * target n c s i) % 18446744073709551616 ≡ d * 4 ^ target n c s i
-  up_to = let g = (move_goes n c s i h).on in digit_up d (target n c s i) small (omega arith)
+  pub word_leaves : digit_of (piece s) * 2 ^ (2 * i) % 18446744073709551616 ≤ c
+  word_leaves = rw (up_from, ← (move_goes n c s i h).from) (digit_within c i)
 
-  pub word_leaves : d * 2 ^ (2 * i) % 18446744073709551616 ≤ c
-  word_leaves = rw (up_from, is, ← (move_goes n c s i h).from) (digit_within c i)
+  pub word_moves : c - digit_of (piece s) * 2 ^ (2 * i) % 18446744073709551616 + digit_of (piece s) * 2 ^ (2 * target n c s i) % 18446744073709551616 ≡ after n c s i
+  word_moves = ap₂ (λ x y. c - x + y) up_from up_to
 
-  pub word_moves : c - d * 2 ^ (2 * i) % 18446744073709551616 + d * 2 ^ (2 * target n c s i) % 18446744073709551616 ≡ after n c s i
-  word_moves = ap₂ (λ x y. c - x + y) up_from up_to ∙ ap (λ x. shifted x i (target n c s i) c) is
-
-  pub word_fits : c - d * 2 ^ (2 * i) % 18446744073709551616 + d * 2 ^ (2 * target n c s i) % 18446744073709551616 < 2 ^ 24
+  pub word_fits : c - digit_of (piece s) * 2 ^ (2 * i) % 18446744073709551616 + digit_of (piece s) * 2 ^ (2 * target n c s i) % 18446744073709551616 < 2 ^ 24
   word_fits =
       let below = legal_below n (after n c s i) (move_falls n c ok s i h).still_legal in
       let most = pow-le-pow_right {n = 4} (omega arith) {i = n} {j = 12} few in

@@ -2,21 +2,21 @@
 -- Assumes nothing.
 use Rattle.std.specs.Prelude.{◌≡◌, ℕ, zero, suc, ◌+◌, ◌-◌, ◌*◌, ◌^◌, ◌<◌, ◌≤◌, Bool, true, ◌≢◌, map, refl}
 use Rattle.std.proofs.Common.{sym, ◌∙◌, ap, inl, inr, arith}
-use Rattle.std.specs.List.{range_with_len}
+use Rattle.std.specs.List.{list_all, range_with_len}
 use Rattle.std.proofs.lemmas.Bool.{cases_eq, and_parts, and_from}
 use Rattle.bits.specs.Digits.{digit}
 use Rattle.bits.proofs.Digits.{digit_within, put_same, put_other, put_below, take_same, take_other}
-use Rattle.toads.specs.Toads.{every, shifted}
+use Rattle.toads.specs.Toads.{shifted}
 
 -- the cells of a legal code: no digit 3
-pub every_cell : (p : ℕ → Bool) (c a n i : ℕ) → every p (map (digit c) (range_with_len a n)) ≡ true → a ≤ i → i < a + n → p (digit c i) ≡ true
+pub every_cell : (p : ℕ → Bool) (c a n i : ℕ) → list_all p (map (digit c) (range_with_len a n)) ≡ true → a ≤ i → i < a + n → p (digit c i) ≡ true
 every_cell p c a zero i e l h = absurd (omega arith)
 every_cell p c a (suc n) i e l h = elim (cases_eq a i) [
   | inl q ↦ rw (← q) (and_parts (p (digit c a)) _ e).0
   | inr q ↦ every_cell p c (a + 1) n i (and_parts (p (digit c a)) _ e).1 (omega arith) (omega arith)
 ]
 
-pub every_from : (p : ℕ → Bool) (c a n : ℕ) → ((i : ℕ) → a ≤ i → i < a + n → p (digit c i) ≡ true) → every p (map (digit c) (range_with_len a n)) ≡ true
+pub every_from : (p : ℕ → Bool) (c a n : ℕ) → ((i : ℕ) → a ≤ i → i < a + n → p (digit c i) ≡ true) → list_all p (map (digit c) (range_with_len a n)) ≡ true
 every_from p c a zero f = refl
 every_from p c a (suc n) f = and_from (p (digit c a)) _ (f a (omega arith) (omega arith)) (every_from p c (a + 1) n (λ i l h. f i (omega arith) (omega arith)))
 

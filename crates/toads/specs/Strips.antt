@@ -1,13 +1,18 @@
 -- The text of a strip: one character for each cell.
 -- Assumes nothing.
-use Rattle.std.specs.Prelude.{◌≡◌, ℕ, suc, ◌+◌, ◌*◌, true, false, cond, List, [], ◌∷◌, length, is_some, Some, None, Ok, Err, Option, Result}
+use Rattle.std.specs.Prelude.{◌≡◌, ℕ, Bool, suc, ◌+◌, ◌*◌, true, false, cond, List, [], ◌∷◌, length, is_some, Some, None, Ok, Err, Option, Result}
 use Rattle.std.specs.Option.{option_map}
+use Rattle.std.specs.Result.{is_err}
 use Rattle.toads.specs.declared.text.TextFault.{TextFault}
 use Rattle.toads.specs.declared.text.TextFault.TheVariants.{Character, Size}
 use Rattle.toads.specs.declared.text.Position.{Position}
-use Rattle.toads.specs.Cells.{Cell, cell_of, digit_of}
+use Rattle.toads.specs.Cells.{Cell, cell_of, char_read, digit_of}
 use Rattle.toads.specs.Toads.{toads}
 use Rattle.toads.specs.Making.{sized, strip_rules}
+
+-- the character stands for no cell
+abbrev pub no_cell : ℕ → Bool
+no_cell c = is_err (char_read c)
 
 -- the place of the first character that stands for no cell
 abbrev pub first_wrong : List ℕ → Option ℕ

@@ -1,7 +1,7 @@
 -- Toads-and-Frogs on a strip of n cells, counted from the left from 0: base-4 digit i of the code is cell i.
 -- Assumes nothing.
-use Rattle.std.specs.Prelude.{ℕ, ◌+◌, ◌-◌, ◌*◌, ◌^◌, Bool, true, cond, ◌&&◌, ◌||◌, ltb, List, [], ◌∷◌, map, count_by, ◌==◌, nat_lt}
-use Rattle.std.specs.List.{range_with_len}
+use Rattle.std.specs.Prelude.{ℕ, ◌+◌, ◌-◌, ◌*◌, ◌^◌, Bool, cond, ◌&&◌, ◌||◌, ltb, List, [], ◌∷◌, map, count_by, ◌==◌, nat_lt}
+use Rattle.std.specs.List.{list_all, range_with_len}
 use Rattle.bits.specs.Bits.{places}
 use Rattle.bits.specs.Digits.{digit}
 use Rattle.games.specs.declared.side.Side.{Side}
@@ -14,14 +14,9 @@ use Rattle.toads.specs.Cells.{Cell, Empty, Toad, Frog, digit_of}
 abbrev pub cells : ℕ → ℕ → List ℕ
 cells n code = map (digit code) (range_with_len 0 n)
 
--- every number of the list passes the test
-abbrev pub every : (ℕ → Bool) → List ℕ → Bool
-every p [] = true
-every p (x ∷ xs) = p x && every p xs
-
 -- a code below 4^n is legal when no digit is 3
 abbrev pub legal : ℕ → ℕ → Bool
-legal n code = nat_lt code (4 ^ n) && every (λ d. ltb d 3) (cells n code)
+legal n code = nat_lt code (4 ^ n) && list_all (λ d. ltb d 3) (cells n code)
 
 -- the strip has a cell i, and it holds x
 abbrev pub holds : ℕ → ℕ → Cell → ℕ → Bool

@@ -1,6 +1,7 @@
 // A strip of cells; the files below this one have what it can do.
 ghost use Rattle.std.specs.Prelude.{◌≤◌};
 
+mod lineup;
 mod masks;
 mod pairs;
 mod rules;

@@ -1,7 +1,7 @@
 // A position read from a strip's characters.
-ghost use Rattle.std.specs.Prelude.{◌≡◌, ◌≤◌, length};
+ghost use Rattle.std.specs.Prelude.{◌≡◌, ◌≤◌, length, position};
 ghost use Rattle.toads.specs.Laws.{CodeReads};
-ghost use Rattle.toads.specs.Strips.{Read, char_digit, code_of, first_wrong, text_fault_number};
+ghost use Rattle.toads.specs.Strips.{Read, char_digit, code_of, no_cell, text_fault_number};
 ghost use Rattle.toads.specs.declared.text.TextFault.TheVariants.{Size};
 
 use crate::cell::Cell;
@@ -9,7 +9,7 @@ use crate::strip::Strip;
 use rulesets::fault::BoardFault;
 
 // Why a text is no strip: the place of a character that stands for no cell, or the number of cells.
-#[derive(Clone, Copy)]
+#[derive(Clone, Copy, Debug, PartialEq, Eq)]
 pub enum TextFault {
     Character(usize),
     Size,
@@ -61,14 +61,10 @@ impl Position {
 
 // The place of the first character that stands for no cell.
 fn wrong_character(text: &[u8]) -> Option<usize>
-    ensures { result ≡ first_wrong text.now }
+    ensures { result ≡ position no_cell text.now }
 {
-    for (place, byte) in text.iter().enumerate() {
-        if Cell::from_char(char::from(*byte)).is_none() {
-            return Some(place);
-        }
-    }
-    None
+    text.iter()
+        .position(|byte| Cell::try_from(char::from(*byte)).is_err())
 }
 
 // The code of at most 12 cells, the first of them the lowest digit.
@@ -87,8 +83,5 @@ fn code_of(text: &[u8]) -> u64
 fn digit_of(byte: u8) -> u64
     ensures { result ≡ char_digit byte }
 {
-    match Cell::from_char(char::from(byte)) {
-        Some(cell) => cell.digit(),
-        None => 0,
-    }
+    Cell::try_from(char::from(byte)).map_or(0, u64::from)
 }

@@ -1,163 +1,18 @@
 // Positions of every board, a minus and sums, valued in one dictionary over each store: the node of each, and its outcome.
 #![tactic(auto)]
 
-use dictionary::dictionary::Dictionary;
-use domineering::board::Board;
-use games::side::Side;
-use hackenbush::edge::{Colour, Edge};
-use hackenbush::picture::Picture;
-use hashed_store::table::HashTable;
-use ordered_store::ordered::OrderedList;
-use rulesets::fault::BoardFault;
-use rulesets::ruleset::Ruleset;
-use stores::store::Store;
-use sums::minus::Minus;
-use sums::sum::Sum;
-use toads::text::Position;
-use valuing::first_move::first_move;
-use valuing::value::value;
+use demos::desk::{Detail, show_values};
+use demos::shown::{Demo, Shown, over_both};
+use valuing::recall::Nothing;
+
+struct Values;
+
+impl Demo for Values {
+    fn over<S: Shown>(&self, rt: &HostRuntime) -> anyhow::Result<()> {
+        show_values::<S, Nothing>(rt, Nothing, Detail::Outcome)
+    }
+}
 
 fn main(rt: HostRuntime) -> anyhow::Result<()> {
-    run(&rt)
-}
-
-fn run(rt: &HostRuntime) -> anyhow::Result<()> {
-    if let Ok(store) = OrderedList::new(rt.alloc(), 384) {
-        println!(rt; "over an ordered list")?;
-        show(rt, store)?;
-    }
-    if let Ok(store) = HashTable::new(rt.alloc(), 384) {
-        println!(rt; "over a hash-consed table")?;
-        show(rt, store)?;
-    }
-    Ok(())
-}
-
-fn show<S: Store + Drop>(rt: &HostRuntime, store: S) -> anyhow::Result<()> {
-    let mut dictionary = Dictionary::begin(rt.alloc(), store)?;
-    strip(rt, &mut dictionary, "T.F")?;
-    boards(rt, &mut dictionary)?;
-    strip(rt, &mut dictionary, "TF.")?;
-    pictures(rt, &mut dictionary)?;
-    moves(rt, &mut dictionary)?;
-    Ok(())
-}
-
-fn strip<S: Store>(
-    rt: &HostRuntime,
-    dictionary: &mut Dictionary<S>,
-    cells: &str,
-) -> anyhow::Result<()> {
-    if let Ok(position) = Position::read(cells.as_bytes()) {
-        tell(rt, dictionary, cells, &position.strip, position.code)?;
-    }
-    Ok(())
-}
-
-fn boards<S: Store>(rt: &HostRuntime, dictionary: &mut Dictionary<S>) -> anyhow::Result<()> {
-    if let Ok(cell) = Board::new(1, 1) {
-        tell(rt, dictionary, ".", &cell, 0)?;
-    }
-    if let Ok(square) = Board::new(2, 2) {
-        tell(rt, dictionary, "#./..", &square, 1)?;
-        tell(rt, dictionary, "../..", &square, 0)?;
-        tell(rt, dictionary, "a code at the limit", &square, 16)?;
-    }
-    Ok(())
-}
-
-// Two pictures of two edges, a minus, and sums with it.
-fn pictures<S: Store>(rt: &HostRuntime, dictionary: &mut Dictionary<S>) -> anyhow::Result<()> {
-    let Ok(half) = stalk(Colour::Right) else {
-        return Ok(());
-    };
-    let Ok(flower) = stalk(Colour::Both) else {
-        return Ok(());
-    };
-    let minus = Minus::new(half);
-    tell(rt, dictionary, "0-1L,1-2R", &half, 3)?;
-    tell(rt, dictionary, "0-1L,1-2B", &flower, 3)?;
-    tell(rt, dictionary, "minus 0-1L,1-2R", &minus, 3)?;
-    if let Ok(zero) = Sum::new(half, minus) {
-        tell(rt, dictionary, "0-1L,1-2R and its minus", &zero, 15)?;
-        if let Ok(nested) = Sum::new(half, zero) {
-            tell(rt, dictionary, "0-1L,1-2R and that sum", &nested, 63)?;
-        }
-    }
-    tell(rt, dictionary, "0-1L,1-2R, the red edge floating", &half, 2)
-}
-
-// An edge of Left's on the ground, and one of the colour on top of it.
-fn stalk(colour: Colour) -> Result<Picture, BoardFault> {
-    let low = Edge {
-        from: 0,
-        to: 1,
-        colour: Colour::Left,
-    };
-    let high = Edge {
-        from: 1,
-        to: 2,
-        colour,
-    };
-    Picture::new(&[low, high])
-}
-
-fn tell<S: Store, R: Ruleset>(
-    rt: &HostRuntime,
-    dictionary: &mut Dictionary<S>,
-    name: &str,
-    board: &R,
-    code: u64,
-) -> anyhow::Result<()> {
-    match value(dictionary, board, code) {
-        Ok(node) => match dictionary.outcome(node) {
-            Ok(outcome) => println!(rt; "{name}: node {node}, outcome {}", outcome.letter())?,
-            Err(fault) => println!(rt; "{name}: node {node}, refused with {}", fault.number())?,
-        },
-        Err(fault) => println!(rt; "{name}: refused with {}", fault.number())?,
-    }
-    Ok(())
-}
-
-// First moves on a strip, and on two cells one above the other.
-fn moves<S: Store>(rt: &HostRuntime, dictionary: &mut Dictionary<S>) -> anyhow::Result<()> {
-    if let Ok(position) = Position::read(b"T.F") {
-        tell_move(
-            rt,
-            dictionary,
-            "Left on T.F",
-            &position.strip,
-            Side::Left,
-            position.code,
-        )?;
-    }
-    if let Ok(column) = Board::new(2, 1) {
-        tell_move(rt, dictionary, "Left on ./.", &column, Side::Left, 0)?;
-        tell_move(rt, dictionary, "Right on ./.", &column, Side::Right, 0)?;
-        tell_move(
-            rt,
-            dictionary,
-            "Right on a code at the limit",
-            &column,
-            Side::Right,
-            4,
-        )?;
-    }
-    Ok(())
-}
-
-fn tell_move<S: Store, R: Ruleset>(
-    rt: &HostRuntime,
-    dictionary: &mut Dictionary<S>,
-    name: &str,
-    board: &R,
-    side: Side,
-    code: u64,
-) -> anyhow::Result<()> {
-    match first_move(dictionary, board, side, code) {
-        Ok(Some(index)) => println!(rt; "{name}: wins with move {index}")?,
-        Ok(None) => println!(rt; "{name}: no move wins")?,
-        Err(fault) => println!(rt; "{name}: refused with {}", fault.number())?,
-    }
-    Ok(())
+    over_both(&rt, &Values)
 }

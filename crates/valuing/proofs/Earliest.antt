@@ -85,11 +85,11 @@ pub record Tried (R : Rules) (s : Side) (c : ℕ) (a : Rows) (ms : List ℕ) (i 
   pub holds : Valuing R c a (take i ms) numbers b entries
   pub best : Best R s ms i w
 
--- what holds between the state in which the loop began and the state after i turns
-pub record Trying (R : Rules) (s : Side) (ms : List ℕ) (i : ℕ) (w : Option ℕ) (c₀ c : ℕ) (a b : Rows) (ok₀ ok : Type 0) : Type 0 where
+-- what holds between the state in which the loop began and the state after i turns: ok says that the memory is right
+pub record Trying (R : Rules) (s : Side) (ms : List ℕ) (i : ℕ) (w : Option ℕ) (c₀ c : ℕ) (a b : Rows) (ok : Type 0) : Type 0 where
   pub room : c ≡ c₀
-  pub kept : ok₀ → ok
-  pub so_far : ok₀ → Tried R s c₀ a ms i w b
+  pub kept : ok
+  pub so_far : Tried R s c₀ a ms i w b
 
 best_more : (R : Rules) (s : Side) (ms : List ℕ) (i : ℕ) (w : Option ℕ) (r : Bool) → i < length ms → r ≡ mover_wins R s (get_or ms i 0) → Best R s ms i w → Best R s ms (i + 1) (earlier_of w i r)
 best_more R s ms i (Some k) r l e b = b
@@ -113,29 +113,29 @@ no_earliest R s code Illegal = tt
 no_earliest R s code (Position z f) = tt
 
 module _ (R : Rules) (l : Lawful R) (s : Side) where
-  pub tries : (ms : List ℕ) (c : ℕ) (a : Rows) (ok₀ ok : Type 0) → (ok₀ → ok) → Trying R s ms 0 None c c a a ok₀ ok
-  tries ms c a ok₀ ok k = record { room = refl; kept = k; so_far = λ h. record { numbers = []; entries = []; holds = valuing_none R l c a; best = λ k z. absurd (omega arith) } }
+  pub tries : (ms : List ℕ) (c : ℕ) (a : Rows) (ok : Type 0) → ok → Trying R s ms 0 None c c a a ok
+  tries ms c a ok k = record { room = refl; kept = k; so_far = record { numbers = []; entries = []; holds = valuing_none R l c a; best = λ k z. absurd (omega arith) } }
 
   -- one more turn, whose move wins or not; r says which
-  module _ (ms : List ℕ) (i m n : ℕ) (w : Option ℕ) (c₀ c c' : ℕ) (a b d : Rows) (ok₀ ok ok' : Type 0) (t : Trying R s ms i w c₀ c a b ok₀ ok) (at : Some m ≡ slice_get ms i) (ce : c' ≡ c) (keeps : ok → ok')
-      (x : ok → Entered R c b m (told n) d) (r : Bool) (tells : ok' → n < length d → r ≡ as_good s (node d n) 𝟎) where
-    entered : ok₀ → Entered R c₀ b m (told n) d
-    entered h = subst (λ z. Entered R z b m (told n) d) t.room (x (t.kept h))
+  module _ (ms : List ℕ) (i m n : ℕ) (w : Option ℕ) (c₀ c c' : ℕ) (a b d : Rows) (ok ok' : Type 0) (t : Trying R s ms i w c₀ c a b ok) (at : Some m ≡ slice_get ms i) (ce : c' ≡ c) (keeps : ok → ok')
+      (x : ok → Entered R c b m (told n) d) (r : Bool) (tells : n < length d → r ≡ as_good s (node d n) 𝟎) where
+    entered : Entered R c₀ b m (told n) d
+    entered = subst (λ z. Entered R z b m (told n) d) t.room (x t.kept)
 
-    is_won : ok₀ → r ≡ mover_wins R s (get_or ms i 0)
-    is_won h = tells (keeps (t.kept h)) (number_in (entered h)) ∙ node_wins R s (entered h) ∙ ap (mover_wins R s) (sym (nth_some ms i m at).1)
+    is_won : r ≡ mover_wins R s (get_or ms i 0)
+    is_won = tells (number_in entered) ∙ node_wins R s entered ∙ ap (mover_wins R s) (sym (nth_some ms i m at).1)
 
-    pub one_tried : Trying R s ms (i + 1) (earlier_of w i r) c₀ c' a d ok₀ ok'
+    pub one_tried : Trying R s ms (i + 1) (earlier_of w i r) c₀ c' a d ok'
     one_tried = record {
       room = ce ∙ t.room;
-      kept = λ h. keeps (t.kept h);
-      so_far = λ h.
+      kept = keeps t.kept;
+      so_far =
           let (k, e) = nth_some ms i m at in
           record {
-            numbers = (t.so_far h).numbers ++ n ∷ [];
-            entries = (entered h).entries ++ (t.so_far h).entries;
-            holds = rw (take_more ms i 0 k, e) (valuing_more R l c₀ (take i ms) m (t.so_far h).holds (entered h).holds);
-            best = best_more R s ms i w r k (is_won h) (t.so_far h).best;
+            numbers = t.so_far.numbers ++ n ∷ [];
+            entries = entered.entries ++ t.so_far.entries;
+            holds = rw (take_more ms i 0 k, e) (valuing_more R l c₀ (take i ms) m t.so_far.holds entered.holds);
+            best = best_more R s ms i w r k is_won t.so_far.best;
           };
     }
 
@@ -147,16 +147,16 @@ module _ (R : Rules) (l : Lawful R) (s : Side) where
         let (k, e) = nth_some ms i m at in
         record { entries = _; holds = move_stops R l c s code legal (take i ms) (drop (suc i) ms) m (subst (λ y. ms ≡ take i ms ++ y ∷ drop (suc i) ms) e (split ms i k)) v.holds x.holds }
 
-    pub broke : (i m : ℕ) (w : Option ℕ) (c₀ c : ℕ) (a b d : Rows) (ok₀ ok : Type 0) (r : Result (Option ℕ) ValueFault) (f : ValueFault) → r ≡ Err f
-        → Trying R s (R.moves s code) i w c₀ c a b ok₀ ok → Some m ≡ slice_get (R.moves s code) i → (ok → Entered R c b m (refusal f) d) → ok₀ → Moved R c₀ a s code (answer_at r) d
-    broke i m w c₀ c a b d ok₀ ok r f e t at x h =
-        subst (λ y. Moved R c₀ a s code (answer_at y) d) (sym e) (stops f i m c₀ a b d w at (t.so_far h) (subst (λ z. Entered R z b m (refusal f) d) t.room (x (t.kept h))))
+    pub broke : (i m : ℕ) (w : Option ℕ) (c₀ c : ℕ) (a b d : Rows) (ok : Type 0) (r : Result (Option ℕ) ValueFault) (f : ValueFault) → r ≡ Err f
+        → Trying R s (R.moves s code) i w c₀ c a b ok → Some m ≡ slice_get (R.moves s code) i → (ok → Entered R c b m (refusal f) d) → Moved R c₀ a s code (answer_at r) d
+    broke i m w c₀ c a b d ok r f e t at x =
+        subst (λ y. Moved R c₀ a s code (answer_at y) d) (sym e) (stops f i m c₀ a b d w at t.so_far (subst (λ z. Entered R z b m (refusal f) d) t.room (x t.kept)))
 
-    pub tried : (i : ℕ) (w : Option ℕ) (c₀ c : ℕ) (a b : Rows) (ok₀ ok : Type 0) → length (R.moves s code) ≤ i → Trying R s (R.moves s code) i w c₀ c a b ok₀ ok → ok₀ → Moved R c₀ a s code (told w) b
-    tried i w c₀ c a b ok₀ ok k t h =
-        let v = t.so_far h in
+    pub tried : (i : ℕ) (w : Option ℕ) (c₀ c : ℕ) (a b : Rows) (ok : Type 0) → length (R.moves s code) ≤ i → Trying R s (R.moves s code) i w c₀ c a b ok → Moved R c₀ a s code (told w) b
+    tried i w c₀ c a b ok k t =
+        let v = t.so_far in
         let all : Valuing R c₀ a (R.moves s code) v.numbers b v.entries = rw (take_all i (R.moves s code) k) at v.holds in
         record { entries = v.entries; holds = move_told R l c₀ s code legal w all (winning_at R s code i w k v.best) }
 
-  pub tried_earliest : (code i : ℕ) (w : Option ℕ) (c₀ c : ℕ) (a b : Rows) (ok₀ ok : Type 0) → Trying R s (R.moves s code) i w c₀ c a b ok₀ ok → ok₀ → Earliest R s code (told w)
-  tried_earliest code i w c₀ c a b ok₀ ok t h = earliest_at R s code i w (t.so_far h).best
+  pub tried_earliest : (code i : ℕ) (w : Option ℕ) (c₀ c : ℕ) (a b : Rows) (ok : Type 0) → Trying R s (R.moves s code) i w c₀ c a b ok → Earliest R s code (told w)
+  tried_earliest code i w c₀ c a b ok t = earliest_at R s code i w t.so_far.best

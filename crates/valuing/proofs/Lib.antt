@@ -1,5 +1,4 @@
 pub mod Told
 pub mod Noted
 pub mod Steps
-pub mod Trying
 pub mod Earliest

@@ -1,12 +1,9 @@
 -- The numbers told so far are those of a set, into which each goes as it is told.
 -- Assumes nothing.
-use Rattle.std.proofs.Common.{◌≡◌, ℕ, ◌<◌, Bool, true, false, ◌&&◌, ◌||◌, eqb, ltb, ◌⊎◌, ◌↔◌, List, [], ◌∷◌, ◌++◌, sym, refl, ◌∙◌, subst, inl, inr, arith, lt-ltb, eq-eqb, eqb-true}
+use Rattle.std.proofs.Common.{◌≡◌, ℕ, ◌<◌, Bool, true, false, ◌&&◌, ◌||◌, eqb, ltb, ◌⊎◌, List, [], ◌∷◌, ◌++◌, sym, refl, ◌∙◌, subst, inl, inr, arith, lt-ltb, eq-eqb, eqb-true}
 use Rattle.calls.specs.Rows.{◌among◌, first, later}
+use Rattle.valuing.specs.Sides.{Are}
 use Rattle.calls.proofs.Entering.{among_back, among_either, among_front}
-
--- the numbers of the list are those of the set
-abbrev pub Are : List ℕ → (ℕ → Bool) → Type 0
-Are ns p = (k : ℕ) → (k among ns) ↔ (p k ≡ true)
 
 pub are_none : (p : ℕ → Bool) → ((k : ℕ) → p k ≡ false) → Are [] p
 are_none p e k = (λ i. elim i [ ], λ h. let f = e k in let z : ◌≡◌ {A = ℕ} 0 1 = cc in absurd (omega arith))

@@ -1,4 +1,5 @@
 pub mod Answers
 pub mod Valued
 pub mod Moved
-pub mod Ready
+pub mod Sure
+pub mod Sides

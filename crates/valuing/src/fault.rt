@@ -4,7 +4,7 @@ ghost use Rattle.valuing.specs.Answers.{number_of};
 
 use dictionary::fault::DictionaryFault;
 
-#[derive(Clone, Copy)]
+#[derive(Clone, Copy, Debug, PartialEq, Eq)]
 pub enum ValueFault {
     // The code is not legal.
     Illegal,

@@ -3,35 +3,34 @@ ghost use Rattle.std.specs.Prelude.{◌≡◌, ◌<◌, length};
 ghost use Rattle.games.specs.Form.{𝟎};
 ghost use Rattle.games.specs.Tests.{as_good};
 ghost use Rattle.calls.specs.Rows.{node};
-ghost use Rattle.dictionary.specs.Kept.{Kept};
 ghost use Rattle.valuing.specs.Answers.{answer_at};
-ghost use Rattle.valuing.specs.Moved.{Moved, won_by};
+ghost use Rattle.valuing.specs.Moved.{Earliest, Moved, earlier_of, won_by};
 
 use crate::fault::ValueFault;
+use crate::recall::{Nothing, Recall};
 use crate::value::enter;
 use dictionary::dictionary::Dictionary;
 use games::outcome::Outcome;
 use games::side::Side;
 use rulesets::ruleset::Ruleset;
+use rulesets::successors::successors_of;
 use stores::store::Store;
 
 // Whether the side, moving second, wins a game of the outcome.
 fn is_won(side: Side, outcome: Outcome) -> bool
     ensures { result ≡ won_by side outcome }
 {
-    match (outcome, side) {
-        (Outcome::Zero, _) => true,
-        (Outcome::Fuzzy, _) => false,
-        (Outcome::Positive, Side::Left) => true,
-        (Outcome::Positive, Side::Right) => false,
-        (Outcome::Negative, Side::Left) => false,
-        (Outcome::Negative, Side::Right) => true,
+    match outcome {
+        Outcome::Zero => true,
+        Outcome::Fuzzy => false,
+        Outcome::Positive => side == Side::Left,
+        Outcome::Negative => side == Side::Right,
     }
 }
 
 // Whether the side, moving second, wins the game of a node.
-pub(crate) fn wins<S: Store>(dictionary: &Dictionary<S>, side: Side, number: u16) -> bool
-    ensures { Kept (S.Store.rows dictionary.now.store) dictionary.now.tables → number < length (S.Store.rows dictionary.now.store) → result ≡ as_good side (node (S.Store.rows dictionary.now.store) number) 𝟎 }
+fn wins<S: Store>(dictionary: &Dictionary<S>, side: Side, number: u16) -> bool
+    ensures { number < length dictionary.now.rows → result ≡ as_good side (node dictionary.now.rows number) 𝟎 }
 {
     match dictionary.outcome(number) {
         Ok(outcome) => is_won(side, outcome),
@@ -39,28 +38,51 @@ pub(crate) fn wins<S: Store>(dictionary: &Dictionary<S>, side: Side, number: u16
     }
 }
 
-// The index of a first move that wins for the side, if there is one. All of the side's successors are valued.
+// The move found before, or else this one if it wins.
+fn earlier(found: Option<usize>, index: usize, wins: bool) -> Option<usize>
+    ensures { result ≡ earlier_of found index wins }
+{
+    match (found, wins) {
+        (None, true) => Some(index),
+        _ => found,
+    }
+}
+
+// The index of the earliest first move that wins for the side, if there is one. All of the side's successors are valued.
+// The memory is lent for the call, and forgets what it held.
+pub fn first_move_with<S: Store, M: Recall, R: Ruleset>(
+    dictionary: &mut Dictionary<S>,
+    memory: &mut M,
+    board: &R,
+    side: Side,
+    code: u64,
+) -> Result<Option<usize>, ValueFault>
+    ensures moved { Moved (R.Ruleset.rules board.now) dictionary.old.room dictionary.old.rows side code (answer_at result) dictionary.new.rows }
+    ensures earliest { Earliest (R.Ruleset.rules board.now) side code (answer_at result) }
+    ensures room { dictionary.new.room ≡ dictionary.old.room }
+{
+    if !board.is_legal(code) {
+        return Err(ValueFault::Illegal);
+    }
+    memory.forget(board.limit());
+    let mut winning = None;
+    for (index, next) in successors_of(board, side, code).enumerate() {
+        let number = enter(dictionary, memory, board, next)?;
+        winning = earlier(winning, index, wins(dictionary, side, number));
+    }
+    Ok(winning)
+}
+
+// The same without a memory, for small boards.
 pub fn first_move<S: Store, R: Ruleset>(
     dictionary: &mut Dictionary<S>,
     board: &R,
     side: Side,
     code: u64,
 ) -> Result<Option<usize>, ValueFault>
-    ensures moved { Kept (S.Store.rows dictionary.old.store) dictionary.old.tables → Moved (R.Ruleset.rules board.now) (S.Store.room dictionary.old.store) (S.Store.rows dictionary.old.store) side code (answer_at result) (S.Store.rows dictionary.new.store) }
-    ensures kept { Kept (S.Store.rows dictionary.old.store) dictionary.old.tables → Kept (S.Store.rows dictionary.new.store) dictionary.new.tables }
-    ensures room { S.Store.room dictionary.new.store ≡ S.Store.room dictionary.old.store }
+    ensures moved { Moved (R.Ruleset.rules board.now) dictionary.old.room dictionary.old.rows side code (answer_at result) dictionary.new.rows }
+    ensures earliest { Earliest (R.Ruleset.rules board.now) side code (answer_at result) }
+    ensures room { dictionary.new.room ≡ dictionary.old.room }
 {
-    if !board.is_legal(code) {
-        return Err(ValueFault::Illegal);
-    }
-    let mut winning = None;
-    for index in 0..board.count(side, code) {
-        if let Some(next) = board.successor(side, code, index) {
-            let number = enter(dictionary, board, next)?;
-            if wins(dictionary, side, number) {
-                winning = Some(index);
-            }
-        }
-    }
-    Ok(winning)
+    first_move_with(dictionary, &mut Nothing, board, side, code)
 }

@@ -3,5 +3,5 @@
 
 pub mod fault;
 pub mod first_move;
-pub mod remembering;
+pub mod recall;
 pub mod value;

@@ -1,5 +1,6 @@
 -- Each turn drops the first place of the list; the word is 0 when nothing is left of it.
-use Rattle.std.proofs.Common.{◌≡◌, ℕ, suc, ◌+◌, ◌-◌, None, Option, sym, ap, ◌∙◌, arith}
+use Rattle.std.proofs.Common.{◌≡◌, ℕ, suc, ◌+◌, ◌-◌, None, Option, sym, ap, ◌∙◌, inl, inr, arith}
+use Rattle.std.proofs.lemmas.Bool.{cases_eq, eq-eqb, ne_eqb}
 use lib.Bits.{and_le_l}
 use Rattle.std.specs.List.{slice_get}
 use Rattle.bits.specs.Bits.{bit, places}
@@ -13,24 +14,24 @@ run_out rest i r z e = sym (nth_zero 64 i) ∙ ap (λ w. slice_get (places 64 (b
 pub loop-init : goal.loop-init
 loop-init c = (omega arith, ap (λ i. slice_get (places 64 (bit c.args.word)) i) (omega arith))
 
-pub returns-then-rest-eq0 : goal.returns-then-rest-eq0
-returns-then-rest-eq0 c = run_out c.loop.rest _ _ c.if-rest-eq0.true c.loop.invariant.1
-
 pub loop-preserved : goal.loop-preserved
 loop-preserved c =
-    let left : c.args.index - c.loop.counter ≡ suc (c.args.index - (c.loop.counter + 1)) = omega arith in (
+    let some = c.in_ok-rest.ensures in
+    let left : c.args.index - c.loop.counter ≡ suc (c.args.index - (c.loop.counter + 1)) = omega arith in
+    rw some.1 (
       omega (arith, and_le_l c.loop.rest (c.loop.rest - 1)),
-      sym (nth_cleared 64 c.loop.rest (c.args.index - (c.loop.counter + 1)) c.loop.invariant.0 c.if-rest-eq0.false)
+      sym (nth_cleared 64 c.loop.rest (c.args.index - (c.loop.counter + 1)) c.loop.invariant.0 (λ e. omega (arith, some.0)))
           ∙ ap (λ i. slice_get (places 64 (bit c.loop.rest)) i) (sym left)
           ∙ c.loop.invariant.1,
     )
 
-pub returns-then-rest-eq0-2 : goal.returns-then-rest-eq0-2
-returns-then-rest-eq0-2 c = run_out c.loop.rest _ _ c.if-rest-eq0-2.true c.loop.invariant.1
+pub returns-in_err-rest : goal.returns-in_err-rest
+returns-in_err-rest c = let none : c.loop.rest ≡ 0 = omega (arith, c.in_err-rest.ensures) in c.from_residual.ensures ∙ run_out c.loop.rest _ _ none c.loop.invariant.1
 
-pub returns-else-rest-eq0-2 : goal.returns-else-rest-eq0-2
-returns-else-rest-eq0-2 c =
+pub returns : goal.returns
+returns c =
     let done : c.args.index - c.loop.counter ≡ 0 = omega arith in
-    sym (nth_lowest 64 c.loop.rest c.loop.invariant.0 c.if-rest-eq0-2.false)
-    ∙ ap (λ i. slice_get (places 64 (bit c.loop.rest)) i) (sym done)
-    ∙ c.loop.invariant.1
+    c.then_some.ensures ∙ elim (cases_eq c.loop.rest 0) [
+      | inl e ↦ rw (eq-eqb c.loop.rest 0 e) (run_out c.loop.rest _ _ e c.loop.invariant.1)
+      | inr n ↦ rw (ne_eqb c.loop.rest 0 n) (sym (nth_lowest 64 c.loop.rest c.loop.invariant.0 n) ∙ ap (λ i. slice_get (places 64 (bit c.loop.rest)) i) (sym done) ∙ c.loop.invariant.1)
+    ]

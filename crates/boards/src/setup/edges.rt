@@ -2,23 +2,23 @@
 ghost use Rattle.std.specs.Prelude.{◌≡◌};
 ghost use Rattle.boards.specs.EdgesRead.{colour_read, dash_read, digit_read, edge_step, edges_read, no_edges};
 
+use arrayvec::ArrayVec;
 use hackenbush::edge::{Colour, Edge};
 
 // A picture has at most this many edges.
 const MOST_EDGES: usize = 24;
 
 // Vertices go from 0 to this.
-const LAST_VERTEX: u16 = 15;
+const LAST_VERTEX: u8 = 15;
 
-#[derive(Clone, Copy)]
+#[derive(Drop)]
 pub struct Edges {
     // the first vertex of the edge that is being read
     from: u8,
     // the number that is being read
     number: u8,
-    // how many edges were read, and these, with edges behind them that the count does not reach
-    pub count: usize,
-    pub edges: [Edge; 24],
+    // the edges that were read
+    pub edges: ArrayVec<Edge, MOST_EDGES>,
 }
 
 impl Edges {
@@ -26,26 +26,18 @@ impl Edges {
     pub fn read(items: &[u8]) -> Option<Edges>
         ensures { result ≡ edges_read items.now }
     {
-        let mut edges = Edges::none();
-        for byte in items {
-            edges = edges.step(*byte)?;
-        }
-        Some(edges)
+        items
+            .iter()
+            .try_fold(Edges::none(), |edges, byte| edges.step(*byte))
     }
 
     fn none() -> Edges
         ensures { result ≡ no_edges }
     {
-        let blank = Edge {
-            from: 0,
-            to: 0,
-            colour: Colour::Both,
-        };
         Edges {
             from: 0,
             number: 0,
-            count: 0,
-            edges: [blank; 24],
+            edges: ArrayVec::new(),
         }
     }
 
@@ -67,14 +59,11 @@ impl Edges {
     fn digit(self, digit: u8) -> Option<Edges>
         ensures { result ≡ digit_read self digit }
     {
-        let number = u16::from(self.number) * 10 + u16::from(digit);
+        let number = self.number.checked_mul(10)?.checked_add(digit)?;
         if number > LAST_VERTEX {
             return None;
         }
-        Some(Edges {
-            number: number as u8,
-            ..self
-        })
+        Some(Edges { number, ..self })
     }
 
     // The end of an edge's first vertex.
@@ -89,23 +78,19 @@ impl Edges {
     }
 
     // The end of an edge.
-    fn colour(self, colour: Colour) -> Option<Edges>
+    fn colour(mut self, colour: Colour) -> Option<Edges>
         ensures { result ≡ colour_read self colour }
     {
-        if self.count >= MOST_EDGES {
-            return None;
-        }
-        let mut edges = self.edges;
-        edges[self.count] = Edge {
+        let edge = Edge {
             from: self.from,
             to: self.number,
             colour,
         };
+        self.edges.try_push(edge).ok()?;
         Some(Edges {
             from: 0,
             number: 0,
-            count: self.count + 1,
-            edges,
+            ..self
         })
     }
 }

@@ -1,17 +1,16 @@
 // The rows of a Domineering board, read byte by byte.
 ghost use Rattle.std.specs.Prelude.{◌≡◌};
-ghost use Rattle.boards.specs.RowsRead.{ended, put, row_step, rows_read};
+ghost use Rattle.boards.specs.RowsRead.{closed, ended, put, row_length, row_step, rows_read};
 
 // A board has at most this many squares.
 const MOST_SQUARES: usize = 30;
 
+// Rows of one length, read to their end.
 #[derive(Clone, Copy)]
 pub struct Rows {
-    // how many squares each row has that has ended, 0 before the first has
+    // how many squares each row has
     pub columns: usize,
-    // how many squares the rows that have ended have
-    start: usize,
-    // how many squares were read
+    // how many squares there are
     pub squares: usize,
     // bit i is 1 where square i is filled
     pub code: u64,
@@ -22,19 +21,32 @@ impl Rows {
     pub fn read(items: &[u8]) -> Option<Rows>
         ensures { result ≡ rows_read items.now }
     {
-        let mut rows = Rows {
-            columns: 0,
+        let none = Begun {
+            columns: None,
             start: 0,
             squares: 0,
             code: 0,
         };
-        for byte in items {
-            rows = rows.step(*byte)?;
-        }
-        rows.end()
+        let rows = items.iter().try_fold(none, |rows, byte| rows.step(*byte))?;
+        rows.close()
     }
+}
 
-    fn step(self, byte: u8) -> Option<Rows>
+// Rows that are being read.
+#[derive(Clone, Copy)]
+struct Begun {
+    // how many squares each row has that has ended, once one has
+    columns: Option<usize>,
+    // how many squares the rows that have ended have
+    start: usize,
+    // how many squares were read
+    squares: usize,
+    // bit i is 1 where square i is filled
+    code: u64,
+}
+
+impl Begun {
+    fn step(self, byte: u8) -> Option<Begun>
         ensures { result ≡ row_step self byte }
     {
         match byte {
@@ -46,34 +58,52 @@ impl Rows {
     }
 
     // One square more, with its bit of the code.
-    fn put(self, bit: u8) -> Option<Rows>
+    fn put(self, bit: u8) -> Option<Begun>
         ensures { result ≡ put self bit }
     {
         if self.squares >= MOST_SQUARES {
             return None;
         }
-        Some(Rows {
+        Some(Begun {
             squares: self.squares + 1,
             code: self.code | (u64::from(bit) << self.squares),
             ..self
         })
     }
 
-    // The end of a row, which has squares, as many as the row before it.
-    fn end(self) -> Option<Rows>
+    // The end of a row that another follows.
+    fn end(self) -> Option<Begun>
         ensures { result ≡ ended self }
+    {
+        Some(Begun {
+            columns: Some(self.length()?),
+            start: self.squares,
+            ..self
+        })
+    }
+
+    // The end of the last row.
+    fn close(self) -> Option<Rows>
+        ensures { result ≡ closed self }
+    {
+        Some(Rows {
+            columns: self.length()?,
+            squares: self.squares,
+            code: self.code,
+        })
+    }
+
+    // How many squares the row has that ends: some, and as many as the row before it, if there is one.
+    fn length(self) -> Option<usize>
+        ensures { result ≡ row_length self }
     {
         if self.squares <= self.start {
             return None;
         }
-        let along = self.squares - self.start;
-        if self.columns != 0 && along != self.columns {
-            return None;
+        let length = self.squares - self.start;
+        match self.columns {
+            Some(columns) if columns != length => None,
+            _ => Some(length),
         }
-        Some(Rows {
-            columns: along,
-            start: self.squares,
-            ..self
-        })
     }
 }

@@ -1,7 +1,8 @@
 // Domineering as a ruleset: masks of cells, so that no question walks over the board.
 ghost use Rattle.std.specs.Prelude.{◌≡◌, ℕ, ◌*◌, ◌||◌, ◌==◌};
 ghost use Rattle.bits.specs.Bits.{bit};
-ghost use Rattle.domineering.specs.Domineering.{free, fits, reach};
+ghost use Rattle.domineering.specs.Domineering.{fits, free, legal, reach};
+ghost use Rattle.domineering.specs.Told.{Told};
 ghost use Rattle.domineering.specs.Making.{board_rules};
 ghost use Rattle.domineering.specs.Lawful.{domineering_lawful};
 
@@ -11,22 +12,23 @@ use games::side::Side;
 use rulesets::ruleset::Ruleset;
 
 impl Board {
-    // The empty cells.
-    fn empty(&self, code: u64) -> u64
-        ensures { (i : ℕ) → bit result i ≡ free (self.now.rows * self.now.columns) code i }
+    // The empty cells, when the code is legal.
+    fn empty(&self, code: u64) -> Option<u64>
+        ensures { Told (legal self.now.rows self.now.columns code) (free (self.now.rows * self.now.columns) code) result }
     {
-        self.full & !code
+        self.is_legal(code).then_some(self.full & !code)
     }
 
-    // The first cells of the dominoes that the side can put.
-    fn openings(&self, side: Side, code: u64) -> u64
-        ensures { (i : ℕ) → bit result i ≡ fits side self.now.rows self.now.columns code i }
+    // The first cells of the dominoes that the side can put, when the code is legal.
+    fn openings(&self, side: Side, code: u64) -> Option<u64>
+        ensures { Told (legal self.now.rows self.now.columns code) (fits side self.now.rows self.now.columns code) result }
     {
-        let empty = self.empty(code);
-        match side {
+        let empty = self.empty(code)?;
+        let openings = match side {
             Side::Left => empty & (empty >> self.columns),
             Side::Right => empty & (empty >> 1) & self.inner,
-        }
+        };
+        Some(openings)
     }
 
     // The side's domino at cell 0.
@@ -61,27 +63,19 @@ impl Ruleset for Board {
         code <= self.full
     }
 
+    #[tactic(auto, using(crate::specs::Moves::rank_is))]
     fn rank(&self, code: u64) -> usize {
-        if self.is_legal(code) {
-            count_bits(self.empty(code)) / 2
-        } else {
-            0
-        }
+        self.empty(code).map_or(0, |empty| count_bits(empty) / 2)
     }
 
+    #[tactic(auto, using(crate::specs::Moves::count_is))]
     fn count(&self, side: Side, code: u64) -> usize {
-        if self.is_legal(code) {
-            count_bits(self.openings(side, code))
-        } else {
-            0
-        }
+        self.openings(side, code).map_or(0, count_bits)
     }
 
     fn successor(&self, side: Side, code: u64, index: usize) -> Option<u64> {
-        if !self.is_legal(code) {
-            return None;
-        }
-        let first = nth_bit(self.openings(side, code), index)?;
+        let openings = self.openings(side, code)?;
+        let first = nth_bit(openings, index)?;
         Some(code | (self.domino(side) << first))
     }
 }

@@ -1,12 +1,13 @@
 // The flood from the ground, which finds the edges that are joined to it.
 ghost use Rattle.std.specs.Prelude.{◌≡◌, ℕ, ◌^◌, ◌<◌, true, if◌then◌else◌, Some, None, Decides};
 ghost use Rattle.bits.specs.Bits.{bit};
-ghost use Rattle.hackenbush.specs.Floods.{Ends, Flooded, Looked, Spread};
+ghost use Rattle.hackenbush.specs.Floods.{Flooded, Looked, Spread};
 ghost use Rattle.hackenbush.specs.Hackenbush.{cut, fall, legal};
 ghost use Rattle.hackenbush.specs.Laws.{StaysUp};
 ghost use Rattle.hackenbush.specs.Pictures.{edges_of};
 
 use super::Picture;
+use crate::edge::Edge;
 
 // The set with just the ground, vertex 0.
 const GROUND: u64 = 1;
@@ -21,13 +22,11 @@ struct Flood {
 }
 
 impl Picture {
-    // The two ends of an edge, as a set of vertices.
-    fn ends(&self, place: u32) -> u64
-        requires { place < self.now.count }
-        ensures { Ends (edges_of self.now) place result }
+    // The edges, in their order.
+    fn edges(&self) -> &[Edge]
+        ensures { result.now ≡ edges_of self.now }
     {
-        let edge = self.edges[place as usize];
-        (1 << edge.from) | (1 << edge.to)
+        &self.edges[..self.count]
     }
 
     // Goes along an edge that is dry if the flood has reached an end of it.
@@ -36,7 +35,7 @@ impl Picture {
         requires left { bit flood.dry place ≡ true }
         ensures { Looked (edges_of self.now) place flood.wet flood.dry result.wet result.dry }
     {
-        let ends = self.ends(place);
+        let ends = self.edges()[place as usize].ends();
         if flood.wet & ends == 0 {
             return flood;
         }
@@ -113,10 +112,6 @@ impl Picture {
             wet: after.wet,
             dry: after.dry | edge,
         });
-        if whole.dry == 0 {
-            Some(others ^ after.dry)
-        } else {
-            None
-        }
+        (whole.dry == 0).then_some(others ^ after.dry)
     }
 }

@@ -5,12 +5,9 @@ ghost use Rattle.hackenbush.specs.Hackenbush.{near, painted, touched};
 ghost use Rattle.hackenbush.specs.Pictures.{Made};
 
 use super::Picture;
-use crate::edge::{Colour, Edge};
+use crate::edge::Edge;
 use games::side::Side;
 use rulesets::fault::BoardFault;
-
-// Vertices go from 0 to this.
-const LAST_VERTEX: u8 = 15;
 
 impl Picture {
     // The picture of 1 to 24 edges between vertices 0 to 15, and a refusal for any other list.
@@ -34,12 +31,7 @@ impl Picture {
 fn are_near(edges: &[Edge]) -> bool
     ensures { result ≡ near edges.now }
 {
-    for edge in edges {
-        if edge.from > LAST_VERTEX || edge.to > LAST_VERTEX {
-            return false;
-        }
-    }
-    true
+    edges.iter().all(Edge::is_near)
 }
 
 // The edges, filled up to 24 with edges that no count reaches.
@@ -48,14 +40,8 @@ fn padded(edges: &[Edge]) -> [Edge; 24]
     ensures all { take (length edges.now) result ≡ edges.now }
     ensures long { length result ≡ 24 }
 {
-    let mut all = [Edge {
-        from: 0,
-        to: 0,
-        colour: Colour::Both,
-    }; 24];
-    for i in 0..edges.len() {
-        all[i] = edges[i];
-    }
+    let mut all = [Edge::default(); 24];
+    all[..edges.len()].copy_from_slice(edges);
     all
 }
 
@@ -65,8 +51,8 @@ fn coloured(edges: &[Edge], side: Side) -> u64
     ensures { (i : ℕ) → bit result i ≡ painted side edges.now i }
 {
     let mut set = 0;
-    for i in 0..edges.len() {
-        if edges[i].colour.is_cut_by(side) {
+    for (i, edge) in edges.iter().enumerate() {
+        if edge.colour.is_cut_by(side) {
             set |= 1 << i;
         }
     }
@@ -80,7 +66,7 @@ fn span(edges: &[Edge]) -> u64
 {
     let mut set = 0;
     for edge in edges {
-        set |= (1 << edge.from) | (1 << edge.to);
+        set |= edge.ends();
     }
     set
 }

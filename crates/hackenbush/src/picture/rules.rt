@@ -61,9 +61,7 @@ impl Ruleset for Picture {
     }
 
     fn successor(&self, side: Side, code: u64, index: usize) -> Option<u64> {
-        match nth_bit(code & self.coloured(side), index) {
-            Some(place) => self.cut(code, place),
-            None => None,
-        }
+        let place = nth_bit(code & self.coloured(side), index)?;
+        self.cut(code, place)
     }
 }

@@ -20,14 +20,12 @@ impl HashTable {
     {
         let list = RowList::new(heap, capacity)?;
         let firsts = [None; CHAINS];
-        match Vec::with_capacity(heap, capacity) {
-            Ok(lowers) => Ok(HashTable {
-                list,
-                firsts,
-                lowers,
-            }),
-            Err(_) => Err(MakeFault::Memory),
-        }
+        let lowers = Vec::with_capacity(heap, capacity)?;
+        Ok(HashTable {
+            list,
+            firsts,
+            lowers,
+        })
     }
 }
 
@@ -44,9 +42,5 @@ fn total(numbers: &[u16]) -> usize
     ensures value { result ≡ sum numbers.now }
     ensures bound { result ≤ 65535 * 16 }
 {
-    let mut total = 0;
-    for number in numbers {
-        total += usize::from(*number);
-    }
-    total
+    numbers.iter().map(|number| usize::from(*number)).sum()
 }

@@ -1,8 +1,10 @@
 // What a set of nodes does.
-ghost use Rattle.std.specs.Prelude.{◌≡◌, ℕ, ◌<◌, true, false, not, ◌&&◌, ◌||◌, Decides, MatchOption, ◌==◌, nat_lt};
-ghost use Rattle.nodesets.specs.Sets.{Lowest, Meet, NextInside, NextOutside, has};
+ghost use Rattle.std.specs.Prelude.{◌≡◌, ℕ, ◌%◌, ◌<◌, true, false, cond, not, ◌&&◌, ◌||◌, Decides, MatchOption, ◌==◌, nat_lt};
+ghost use Rattle.bits.specs.Bits.{bit};
+ghost use Rattle.nodesets.specs.Sets.{Lowest, Meet, Next, has, word};
 
 use super::{NODES, NodeSet};
+use std::array;
 
 impl NodeSet {
     pub fn empty() -> NodeSet
@@ -39,92 +41,81 @@ impl NodeSet {
         ensures { (j : ℕ) → has self.new j ≡ (has self.old j && not (j == node)) }
     {
         if node < NODES {
-            let old = self.words[node / 64];
-            self.words[node / 64] = old ^ (old & (1 << (node % 64)));
+            self.words[node / 64] &= !(1 << (node % 64));
+        }
+    }
+
+    // The set whose words are made of the words of two sets.
+    fn by_words<F: Fn(u64, u64) -> u64>(&self, other: &NodeSet, f: F) -> NodeSet
+        requires { F.IsAlwaysCallable f }
+        ensures { (i : ℕ) → i < 6 → F.post f (word self.now i) (word other.now i) (word result i) }
+    {
+        NodeSet {
+            words: array::from_fn(|i| f(self.words[i], other.words[i])),
         }
     }
 
     pub fn union(&mut self, other: &NodeSet)
         ensures { (j : ℕ) → has self.new j ≡ (has self.old j || has other.now j) }
     {
-        for i in 0..6 {
-            self.words[i] |= other.words[i];
-        }
+        *self = self.by_words(other, |own, theirs| own | theirs);
     }
 
     // What is in the other set goes.
     pub fn minus(&mut self, other: &NodeSet)
         ensures { (j : ℕ) → has self.new j ≡ (has self.old j && not (has other.now j)) }
     {
-        for i in 0..6 {
-            let old = self.words[i];
-            self.words[i] = old ^ (old & other.words[i]);
-        }
+        *self = self.by_words(other, |own, theirs| own & !theirs);
     }
 
     // Whether a node is in both sets.
     pub fn meets(&self, other: &NodeSet) -> bool
         ensures { Decides result (Meet (has self.now) (has other.now)) }
     {
-        for i in 0..6 {
-            if self.words[i] & other.words[i] != 0 {
-                return true;
-            }
-        }
-        false
+        self.common(other).is_some()
     }
 
     // The lowest node that is in both sets.
     pub fn common(&self, other: &NodeSet) -> Option<usize>
         ensures { MatchOption result (Meet (has self.now) (has other.now) → ⊥) (λ k. Lowest (has self.now) (has other.now) k) }
     {
-        for k in 0..NODES {
-            if self.contains(k) && other.contains(k) {
-                return Some(k);
-            }
-        }
-        None
+        self.by_words(other, |own, theirs| own & theirs)
+            .next_inside(0)
     }
 
     // Whether every node of the set is below n.
     pub fn is_below(&self, n: usize) -> bool
         ensures { Decides result ((k : ℕ) → has self.now k ≡ true → k < n) }
     {
-        for k in 0..NODES {
-            if k >= n && self.contains(k) {
-                return false;
-            }
-        }
-        true
+        self.next_inside(n).is_none()
     }
 
-    // The lowest number from `from` on that is not in the set; 384 where there is none.
-    pub fn next_outside(&self, from: usize) -> usize
-        ensures { NextOutside (has self.now) from result }
+    // The lowest number from `from` on that is not in the set.
+    pub fn next_outside(&self, from: usize) -> Option<usize>
+        ensures { Next (λ k. not (has self.now k)) from result }
+    {
+        self.next(from, u64::MAX)
+    }
+
+    // The lowest number from `from` on that is in the set.
+    pub fn next_inside(&self, from: usize) -> Option<usize>
+        ensures { Next (has self.now) from result }
+    {
+        self.next(from, 0)
+    }
+
+    // The lowest number from `from` on whose bit is not that of the mask.
+    fn next(&self, from: usize, mask: u64) -> Option<usize>
+        ensures { Next (λ k. cond (has self.now k) (not (bit mask (k % 64))) (bit mask (k % 64))) from result }
     {
         let mut k = from;
         while k < NODES {
-            let rest = !self.words[k / 64] >> (k % 64);
+            let rest = (self.words[k / 64] ^ mask) >> (k % 64);
             if rest != 0 {
-                return k + rest.trailing_zeros() as usize;
+                return Some(k + rest.trailing_zeros() as usize);
             }
-            k = k / 64 * 64 + 64;
+            k = (k / 64 + 1) * 64;
         }
-        NODES
-    }
-
-    // The lowest number from `from` on that is in the set; 384 where there is none.
-    pub fn next_inside(&self, from: usize) -> usize
-        ensures { NextInside (has self.now) from result }
-    {
-        let mut k = from;
-        while k < NODES {
-            let here = self.words[k / 64] >> (k % 64);
-            if here != 0 {
-                return k + here.trailing_zeros() as usize;
-            }
-            k = k / 64 * 64 + 64;
-        }
-        NODES
+        None
     }
 }

@@ -34,15 +34,8 @@ impl Store for OrderedList {
     // No number is below 0, so the place of the row with 0 is that of the lowest number with the same row.
     fn find(&self, row: &Row) -> Option<u16> {
         let place = self.place(row, 0);
-        if place == self.order.len() {
-            return None;
-        }
-        let node = self.order[place];
-        if self.list.same(node, row) {
-            Some(node)
-        } else {
-            None
-        }
+        let node = *self.order.get(place)?;
+        self.list.same(node, row).then_some(node)
     }
 
     // The memory for the number is reserved, so `insert` never refuses it.

@@ -18,34 +18,25 @@ impl OrderedList {
         ensures { Made (λ l. rows_in l.list) (λ l. room_of l.list) capacity result }
     {
         let list = RowList::new(heap, capacity)?;
-        match Vec::with_capacity(heap, capacity) {
-            Ok(order) => Ok(OrderedList { list, order }),
-            Err(_) => Err(MakeFault::Memory),
-        }
+        let order = Vec::with_capacity(heap, capacity)?;
+        Ok(OrderedList { list, order })
     }
 
     // Whether the row of `node` comes before a row with a number.
     fn comes_first(&self, node: u16, row: &Row, number: usize) -> bool
         ensures { result ≡ is_lt (entry_order (row_at (rows_in self.now.list) node) node (lists_of row.now) number) }
     {
-        let by_row = self.list.order(node, row);
-        by_row.then(usize::from(node).cmp(&number)).is_lt()
+        self.list
+            .order(node, row)
+            .then(usize::from(node).cmp(&number))
+            .is_lt()
     }
 
     // The place in the order where a row with a number belongs.
     pub(super) fn place(&self, row: &Row, number: usize) -> usize
         ensures { Belongs (rows_in self.now.list) self.now.order.items (lists_of row.now) number result }
     {
-        let mut low = 0;
-        let mut high = self.order.len();
-        while low < high {
-            let middle = low + (high - low) / 2;
-            if self.comes_first(self.order[middle], row, number) {
-                low = middle + 1;
-            } else {
-                high = middle;
-            }
-        }
-        low
+        self.order
+            .partition_point(|node| self.comes_first(*node, row, number))
     }
 }

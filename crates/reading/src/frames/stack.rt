@@ -1,79 +1,90 @@
 // How brackets are opened and closed.
-ghost use Rattle.std.specs.Prelude.{◌≡◌, ℕ, ◌+◌, ◌-◌, ◌<◌, List, [], ◌∷◌};
+ghost use Rattle.std.specs.Prelude.{◌≡◌, ℕ, ◌<◌, List, [], ◌∷◌, length};
 ghost use Rattle.calls.proofs.Bracketed.{brackets, put_outside};
-ghost use Rattle.calls.specs.Rows.{no_numbers};
-ghost use Rattle.games.proofs.Reader.{Bracket, in_left, in_right, finish};
-ghost use Rattle.games.specs.Form.{Form, Forms, ∅};
+ghost use Rattle.games.proofs.Reader.{Bracket, finish};
+ghost use Rattle.games.specs.Form.{Form};
 ghost use Rattle.games.specs.Numbered.{Lists};
-ghost use Rattle.reading.specs.Held.{Holds, stack_of};
+ghost use Rattle.reading.specs.declared.frames.Frame.{Frame as FrameOf};
+ghost use Rattle.reading.specs.Held.{Fresh, Holds, Popped, Turned, stack_of, top_side};
 
-use super::{Frame, Frames, MOST_FRAMES};
+use super::{Frame, Frames};
 use crate::options::Options;
+use arrayvec::ArrayVec;
 use games::side::Side;
+
+impl<T: Options> Default for Frame<T> {
+    ghost is_default = { Fresh T.Options.keeps };
+
+    // A bracket without options.
+    fn default() -> Frame<T> {
+        Frame {
+            side: Side::Left,
+            options: T::none(),
+        }
+    }
+}
 
 impl<T: Options> Frames<T> {
     pub(crate) fn none() -> Frames<T>
-        ensures { result.count ≡ 0 }
+        ensures { stack_of result ≡ [] }
     {
-        let frame = Frame {
-            side: Side::Left,
-            options: T::none(),
-        };
         Frames {
-            items: [frame; MOST_FRAMES],
-            count: 0,
+            items: ArrayVec::new(),
         }
     }
 
-    // A bracket more, without options.
+    // How many brackets are open.
+    pub(crate) fn depth(&self) -> usize
+        ensures { result ≡ length (stack_of self.now) }
+    {
+        self.items.len()
+    }
+
+    // The side whose options are being read in the innermost bracket, if one is open.
+    pub(crate) fn side(&self) -> Option<Side>
+        ensures { result ≡ top_side (stack_of self.now) }
+    {
+        Some(self.items.last()?.side)
+    }
+
+    // A bracket more.
     pub(crate) fn open(&mut self)
-        requires { self.old.count < 96 }
-        ensures holds { (bs : List Bracket) (ls : List Lists) → Holds T.Options.keeps (stack_of self.old) bs ls → Holds T.Options.keeps (stack_of self.new) (in_left ∅ ∷ bs) (no_numbers ∷ ls) }
-        ensures count { self.new.count ≡ self.old.count + 1 }
+        requires { length (stack_of self.old) < 96 }
+        ensures { (f : FrameOf T) × Fresh T.Options.keeps f × (stack_of self.new ≡ f ∷ stack_of self.old) }
     {
-        self.items[self.count] = Frame {
-            side: Side::Left,
-            options: T::none(),
-        };
-        self.count += 1;
+        self.items.push(Frame::default());
     }
 
-    // The innermost bracket goes over to its Right options.
+    // The innermost bracket, if one is open, goes over to its Right options.
     pub(crate) fn bar(&mut self)
-        requires { 0 < self.old.count }
-        ensures holds { (bs : List Bracket) (ls : List Lists) (gs hs : Forms) → Holds T.Options.keeps (stack_of self.old) (in_left gs ∷ bs) ls → Holds T.Options.keeps (stack_of self.new) (in_right gs hs ∷ bs) ls }
-        ensures count { self.new.count ≡ self.old.count }
+        ensures { Turned (stack_of self.old) (stack_of self.new) }
     {
-        let options = self.items[self.count - 1].options;
-        self.items[self.count - 1] = Frame {
-            side: Side::Right,
-            options,
-        };
+        if let Some(frame) = self.items.pop() {
+            self.items.push(Frame {
+                side: Side::Right,
+                options: frame.options,
+            });
+        }
     }
 
-    // The innermost bracket goes: what it keeps of its options.
-    pub(crate) fn close(&mut self) -> T
-        requires { 0 < self.old.count }
-        ensures holds { (b : Bracket) (bs : List Bracket) (l : Lists) (ls : List Lists) → Holds T.Options.keeps (stack_of self.old) (b ∷ bs) (l ∷ ls) → T.Options.keeps result l × Holds T.Options.keeps (stack_of self.new) bs ls }
-        ensures count { self.new.count ≡ self.old.count - 1 }
+    // The innermost bracket, if one is open, goes: what it keeps of its options.
+    pub(crate) fn close(&mut self) -> Option<T>
+        ensures { Popped (stack_of self.old) result (stack_of self.new) }
     {
-        self.count -= 1;
-        self.items[self.count].options
+        Some(self.items.pop()?.options)
     }
 
     // A node is an option of the innermost bracket, if one is open.
     pub(crate) fn put(&mut self, node: u16)
-        ensures holds { node < 384 → (g : Form) (bs : List Bracket) (ls : List Lists) → Holds T.Options.keeps (stack_of self.old) bs ls → Holds T.Options.keeps (stack_of self.new) (brackets (finish g bs)) (put_outside node bs ls) }
-        ensures count { self.new.count ≡ self.old.count }
+        ensures { node < 384 → (g : Form) (bs : List Bracket) (ls : List Lists) → Holds T.Options.keeps (stack_of self.old) bs ls → Holds T.Options.keeps (stack_of self.new) (brackets (finish g bs)) (put_outside node bs ls) }
     {
-        if self.count > 0 {
-            let frame = self.items[self.count - 1];
+        if let Some(frame) = self.items.pop() {
             let mut options = frame.options;
             options.put(frame.side, node);
-            self.items[self.count - 1] = Frame {
+            self.items.push(Frame {
                 side: frame.side,
                 options,
-            };
+            });
         }
     }
 }

@@ -1,13 +1,27 @@
 // How a reader takes one mark after the other.
-ghost use Rattle.std.specs.Prelude.{◌≡◌, ◌<◌, T, [], is_some};
+ghost use Rattle.std.specs.Prelude.{◌≡◌, []};
 ghost use Rattle.games.specs.Text.{open_mark, bar, close_mark, comma};
 ghost use Rattle.games.proofs.Reader.{State, wants, next};
 ghost use Rattle.reading.specs.Marks.{meant};
-ghost use Rattle.reading.specs.Standing.{Stands, Stepped, is_done, list_ending};
+ghost use Rattle.reading.specs.Standing.{Stands, Stepped, fault_at, is_done, list_ending};
 
-use super::{MOST_OPEN, Reader, Stage, Step};
+use super::{Misstep, Reader, Stage};
+use crate::fault::TextFault;
+use crate::frames::{Frames, MOST_OPEN};
 use crate::mark::Mark;
 use games::side::Side;
+
+impl Misstep {
+    // The fault of a text in which this is the mark at the place.
+    pub(crate) fn at(self, place: usize) -> TextFault
+        ensures { result ≡ fault_at self place }
+    {
+        match self {
+            Misstep::Wrong => TextFault::WrongByte(place),
+            Misstep::Deep => TextFault::TooDeep(place),
+        }
+    }
+}
 
 impl Reader {
     // At the beginning of a text.
@@ -16,8 +30,7 @@ impl Reader {
     {
         Reader {
             stage: Stage::Wants,
-            sides: [Side::Left; MOST_OPEN],
-            depth: 0,
+            frames: Frames::none(),
         }
     }
 
@@ -25,14 +38,11 @@ impl Reader {
     pub(crate) fn is_done(&self) -> bool
         ensures { (q : State) → Stands self.now q → result ≡ is_done q }
     {
-        match self.stage {
-            Stage::Done => true,
-            _ => false,
-        }
+        matches!(self.stage, Stage::Done)
     }
 
     // Takes a mark.
-    pub(crate) fn take(&mut self, mark: Mark) -> Step
+    pub(crate) fn take(&mut self, mark: Mark) -> Result<(), Misstep>
         ensures { (q : State) → Stands self.old q → Stepped self.new (next q (meant mark)) result }
     {
         match mark {
@@ -43,77 +53,70 @@ impl Reader {
         }
     }
 
-    fn open(&mut self) -> Step
+    fn open(&mut self) -> Result<(), Misstep>
         ensures { (q : State) → Stands self.old q → Stepped self.new (next q open_mark) result }
     {
         match self.stage {
             Stage::Wants | Stage::Fresh => {
-                if self.depth == MOST_OPEN {
-                    return Step::Deep;
+                if self.frames.depth() == MOST_OPEN {
+                    return Err(Misstep::Deep);
                 }
-                self.sides[self.depth] = Side::Left;
-                self.depth += 1;
+                self.frames.open();
                 self.stage = Stage::Fresh;
-                Step::On
+                Ok(())
             }
-            Stage::After | Stage::Done => Step::Wrong,
+            Stage::After | Stage::Done => Err(Misstep::Wrong),
         }
     }
 
-    fn bar(&mut self) -> Step
+    fn bar(&mut self) -> Result<(), Misstep>
         ensures { (q : State) → Stands self.old q → Stepped self.new (next q bar) result }
     {
         match self.list_ending() {
             Some(Side::Left) => {
-                self.sides[self.depth - 1] = Side::Right;
+                self.frames.bar();
                 self.stage = Stage::Fresh;
-                Step::On
+                Ok(())
             }
-            _ => Step::Wrong,
+            _ => Err(Misstep::Wrong),
         }
     }
 
-    fn close(&mut self) -> Step
+    fn close(&mut self) -> Result<(), Misstep>
         ensures { (q : State) → Stands self.old q → Stepped self.new (next q close_mark) result }
     {
         match self.list_ending() {
             Some(Side::Right) => {
-                self.depth -= 1;
-                self.stage = if self.depth == 0 {
+                let _ = self.frames.close();
+                self.stage = if self.frames.depth() == 0 {
                     Stage::Done
                 } else {
                     Stage::After
                 };
-                Step::On
+                Ok(())
             }
-            _ => Step::Wrong,
+            _ => Err(Misstep::Wrong),
         }
     }
 
-    fn comma(&mut self) -> Step
+    fn comma(&mut self) -> Result<(), Misstep>
         ensures { (q : State) → Stands self.old q → Stepped self.new (next q comma) result }
     {
         match self.stage {
             Stage::After => {
                 self.stage = Stage::Wants;
-                Step::On
+                Ok(())
             }
-            _ => Step::Wrong,
+            _ => Err(Misstep::Wrong),
         }
     }
 
     // The side whose list may end here: after an option, or before the first one.
     fn list_ending(&self) -> Option<Side>
-        ensures side { (q : State) → Stands self.now q → result ≡ list_ending q }
-        ensures inside { T (is_some result) → 0 < self.now.depth }
+        ensures { (q : State) → Stands self.now q → result ≡ list_ending q }
     {
         match self.stage {
-            Stage::Fresh | Stage::After => {
-                if self.depth == 0 {
-                    return None;
-                }
-                Some(self.sides[self.depth - 1])
-            }
+            Stage::Fresh | Stage::After => self.frames.side(),
             Stage::Wants | Stage::Done => None,
         }
     }

@@ -5,7 +5,6 @@ ghost use Rattle.games.specs.Order.{◌≈◌};
 ghost use Rattle.nodesets.specs.Pairs.{Within, by};
 ghost use Rattle.sealing.specs.Forms.{game, node};
 ghost use Rattle.sealing.specs.Ranking.{Ranking};
-ghost use Rattle.sealing.specs.Steps.{Compared};
 ghost use Rattle.sealing.specs.Views.{links};
 
 use super::Nodes;
@@ -30,18 +29,17 @@ impl Nodes {
         self.rows.len()
     }
 
-    // One more node: a canonical form that equals none; worse: the nodes that it is as good as.
-    pub fn push(&mut self, form: &Pair, worse: &Pair)
+    // One more node: a canonical form that equals none.
+    pub fn push(&mut self, form: &Pair)
         requires room { vec_len self.old.rows < 384 }
         requires within { Within (vec_len self.old.rows) (by form.now) }
-        requires known { Compared (links self.old) (by form.now) (vec_len self.old.rows) (by worse.now) }
         requires canonical { Canonical (game (links self.old) (by form.now)) }
         requires fresh { (k : ℕ) → k < vec_len self.old.rows → ¬ (game (links self.old) (by form.now) ≈ node (links self.old) k) }
         ensures { links self.new ≡ links self.old ++ (by form.now ∷ []) }
     {
         let number = self.rows.len();
-        rank_under(&mut self.rows, worse);
-        let mut own = *worse;
+        let mut own = self.compare(form).worse;
+        rank_under(&mut self.rows, &own);
         own.insert(Side::Left, number);
         own.insert(Side::Right, number);
         self.rows.push_reserved(Row {
@@ -58,9 +56,8 @@ fn rank_under(rows: &mut Vec<Row>, worse: &Pair)
 {
     let number = rows.len();
     for i in 0..number {
-        let mut row = rows[i];
+        let row = &mut rows[i];
         row.worse.left.insert_if(number, worse.right.contains(i));
         row.worse.right.insert_if(number, worse.left.contains(i));
-        rows[i] = row;
     }
 }

@@ -8,7 +8,7 @@ ghost use Rattle.sealing.specs.Seals.{CanonicalRow, Narrow, SealsTo, Sound, coun
 
 use super::Tables;
 use crate::order::{count_listed, write_listed};
-use crate::seal::Seal;
+use crate::seal::{SealFault, Sealed};
 use games::side::Side;
 use nodesets::nodeset::NodeSet;
 use nodesets::pair::Pair;
@@ -46,22 +46,22 @@ impl Tables {
     }
 
     // What the two sets seal to. Nothing is added.
-    pub fn find(&self, moves: &Pair) -> Seal
+    pub fn find(&self, moves: &Pair) -> Result<Sealed, SealFault>
         ensures seals { SealsTo result self.now (by moves.now) }
         ensures one { (l m : Lists) → CanonicalRow self.now (by moves.now) l → CanonicalRow self.now (by moves.now) m → l ≡ m }
     {
         if !moves.is_below(self.count()) {
-            return Seal::Unknown;
+            return Err(SealFault::Unknown);
         }
-        let worse = self.nodes.compare(moves);
-        if let Some(k) = self.nodes.equal(moves, &worse) {
-            return Seal::Node(k);
+        let game = self.nodes.compare(moves);
+        if let Some(node) = game.equal() {
+            return Ok(Sealed::Node(node));
         }
-        let form = self.nodes.settle(moves, &worse);
+        let form = game.settle();
         if self.is_narrow(&form) {
-            Seal::New(form)
+            Ok(Sealed::New(form))
         } else {
-            Seal::Wide
+            Err(SealFault::Wide)
         }
     }
 }

@@ -6,7 +6,7 @@ ghost use Rattle.sealing.specs.Seals.{Extended, Fresh, count, form_of, row_of, r
 
 use super::Tables;
 use crate::nodes::Nodes;
-use crate::seal::Seal;
+use crate::seal::Sealed;
 use nodesets::nodeset::NODES;
 use nodesets::pair::Pair;
 use std::alloc::{AllocError, Global};
@@ -30,8 +30,7 @@ impl Tables {
         ensures { rows_of self.new ≡ rows_of self.old ++ (row_of self.old (by form.now) ∷ []) }
     {
         let number = self.nodes.count();
-        let worse = self.nodes.compare(form);
-        self.nodes.push(form, &worse);
+        self.nodes.push(form);
         let place = self.nodes.place(&self.listing, number);
         let _ = self.listing.insert(place, number as u16);
     }
@@ -40,7 +39,10 @@ impl Tables {
     pub fn extend(&mut self, moves: &Pair) -> Option<usize>
         ensures { Extended result self.old self.new (by moves.now) }
     {
-        let Seal::New(form) = self.find(moves) else {
+        let Ok(sealed) = self.find(moves) else {
+            return None;
+        };
+        let Sealed::New(form) = sealed else {
             return None;
         };
         let number = self.nodes.count();

@@ -2,34 +2,12 @@
 ghost use Rattle.std.specs.Prelude.{◌≡◌, ◌≤◌, length};
 ghost use Rattle.std.specs.Option.{option_map};
 ghost use Rattle.games.specs.Numbered.{list_of};
-ghost use Rattle.stores.specs.Rows.{all_below, names_below, row_of_lists, short};
-ghost use Rattle.stores.specs.Reading.{numbers_of, lists_of};
+ghost use Rattle.stores.specs.Rows.{all_below, bare, names_below, row_of_lists};
+ghost use Rattle.stores.specs.Reading.{lists_of};
 
-use super::{MOST_OPTIONS, Numbers, Row};
+use super::Row;
+use crate::numbers::Numbers;
 use games::side::Side;
-
-impl Numbers {
-    // The numbers of a list, unless there are more than 16.
-    fn new(numbers: &[u16]) -> Option<Numbers>
-        ensures { option_map numbers_of result ≡ short numbers.now }
-    {
-        let count = numbers.len();
-        if count > MOST_OPTIONS {
-            return None;
-        }
-        let mut items = [0; MOST_OPTIONS];
-        let front = &mut items[0..count];
-        front.copy_from_slice(numbers);
-        Some(Numbers { items, count })
-    }
-
-    fn list(&self) -> &[u16]
-        ensures value { result.now ≡ numbers_of self.now }
-        ensures few { length result.now ≤ 16 }
-    {
-        &self.items[0..self.count]
-    }
-}
 
 impl Row {
     // The row with these two lists, unless one has more than 16 numbers.
@@ -39,6 +17,16 @@ impl Row {
         let left = Numbers::new(left)?;
         let right = Numbers::new(right)?;
         Some(Row { left, right })
+    }
+
+    // The row with nothing on either side.
+    pub(crate) fn bare() -> Row
+        ensures { lists_of result ≡ bare }
+    {
+        Row {
+            left: Numbers::none(),
+            right: Numbers::none(),
+        }
     }
 
     // The list of a side.
@@ -63,10 +51,5 @@ impl Row {
 fn all_below(numbers: &[u16], limit: usize) -> bool
     ensures { result ≡ all_below limit numbers.now }
 {
-    for number in numbers {
-        if *number as usize >= limit {
-            return false;
-        }
-    }
-    true
+    numbers.iter().all(|number| usize::from(*number) < limit)
 }

@@ -20,10 +20,8 @@ impl RowList {
         if capacity < 1 || capacity > MOST_ROWS {
             return Err(MakeFault::Capacity);
         }
-        match Vec::with_capacity(heap, capacity) {
-            Ok(rows) => Ok(RowList { rows, capacity }),
-            Err(_) => Err(MakeFault::Memory),
-        }
+        let rows = Vec::with_capacity(heap, capacity)?;
+        Ok(RowList { rows, capacity })
     }
 
     // How many rows the list can hold.

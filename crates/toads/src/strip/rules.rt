@@ -1,10 +1,13 @@
 // The rules of Toads-and-Frogs: making a strip, and the questions of a ruleset.
+ghost use Rattle.std.specs.Prelude.{◌≡◌, false, MatchOption};
 ghost use Rattle.toads.specs.Making.{Made, strip_rules};
 ghost use Rattle.toads.specs.Laws.{MoveReads};
 ghost use Rattle.toads.specs.LawsLemmas.{toads_lawful};
+ghost use Rattle.toads.specs.Toads.{legal};
 
+use super::lineup::Lineup;
+use super::masks::EVEN;
 use crate::strip::Strip;
-use crate::strip::masks::EVEN;
 use bits::{count_bits, nth_bit};
 use games::side::Side;
 use rulesets::fault::BoardFault;
@@ -21,6 +24,19 @@ impl Strip {
         }
         Ok(Strip {
             cells: cells as u32,
+        })
+    }
+
+    // What the cells hold, when the code is legal.
+    fn lineup(&self, code: u64) -> Option<Lineup>
+        ensures { MatchOption result (legal self.now.cells code ≡ false) (λ l. (l.cells ≡ self.now.cells) × (l.code ≡ code)) }
+    {
+        if !self.is_legal(code) {
+            return None;
+        }
+        Some(Lineup {
+            cells: self.cells,
+            code,
         })
     }
 }
@@ -47,26 +63,19 @@ impl Ruleset for Strip {
         code < self.limit() && code & (code >> 1) & EVEN == 0
     }
 
-    // One pass from the left: each cell counts with those before it.
     fn rank(&self, code: u64) -> usize {
-        if !self.is_legal(code) {
-            return 0;
-        }
-        self.pairs(code)
+        self.lineup(code).map_or(0, |lineup| lineup.pairs())
     }
 
+    #[tactic(auto, using(crate::proofs::Holding::mover_count))]
     fn count(&self, side: Side, code: u64) -> usize {
-        if !self.is_legal(code) {
-            return 0;
-        }
-        count_bits(self.movers(side, code))
+        self.lineup(code)
+            .map_or(0, |lineup| count_bits(lineup.movers(side)))
     }
 
     fn successor(&self, side: Side, code: u64, index: usize) -> Option<u64> {
-        if !self.is_legal(code) {
-            return None;
-        }
-        let place = nth_bit(self.movers(side, code), index)?;
-        Some(self.moved(side, code, place / 2))
+        let lineup = self.lineup(code)?;
+        let place = nth_bit(lineup.movers(side), index)?;
+        Some(lineup.moved(side, place / 2))
     }
 }

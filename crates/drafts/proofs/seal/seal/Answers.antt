@@ -8,10 +8,7 @@ pub returns : goal.returns
 returns g c = record {
   seals = c.seal-answer.ensures.seals;
   empty = c.abandon.ensures.empty;
-  step = λ kept.
-      seal_steps (g.S.Store.room c.args.dictionary.now.store) (g.S.Store.rows c.args.dictionary.now.store) (g.S.Store.rows c.seal-answer.new.self.store) c.args.draft.now c.abandon.new.self (answer_of c.seal-answer.result)
-      (c.seal-answer.ensures.seals kept) c.abandon.ensures.empty;
-  kept = c.seal-answer.ensures.kept;
+  step = seal_steps c.args.dictionary.now.room c.args.dictionary.now.rows c.seal-answer.new.self.rows c.args.draft.now c.abandon.new.self (answer_of c.seal-answer.result) c.seal-answer.ensures.seals c.abandon.ensures.empty;
   room = c.seal-answer.ensures.room;
   others = sealing_calls_step;
   law = promised;

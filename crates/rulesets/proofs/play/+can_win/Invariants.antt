@@ -1,10 +1,16 @@
-use Rattle.std.proofs.Common.{◌≡◌, ℕ, ◌<◌, false, get_or}
-use Rattle.rulesets.specs.Winning.{mover_wins}
+use Rattle.std.proofs.Common.{◌≡◌, ◌<◌, true}
+use Rattle.std.specs.List.{AllByRecursion}
+use Rattle.rulesets.specs.Remaining.{moves_left}
+use Rattle.rulesets.specs.Winning.{starter_wins, mover_wins}
+use Rattle.rulesets.proofs.Positions.{any_of}
 use Rattle.rulesets.proofs.play.+can_win.Given as goal
 
 abbrev pub decreases-can_win : goal.decreases-can_win
 decreases-can_win g l = (g.R.Ruleset.rules l.board.now).rank l.code
 
--- no move tried so far wins
-abbrev pub invariant-loop-index : goal.invariant-loop-index
-invariant-loop-index g l = let R = g.R.Ruleset.rules l.board in (k : ℕ) → k < l.index → mover_wins R l.side (get_or (R.moves l.side l.code) k 0) ≡ false
+-- the moves left have smaller ranks, and the side can win when one of them wins
+abbrev pub invariant-loop-next : goal.invariant-loop-next
+invariant-loop-next g l =
+    let R = g.R.Ruleset.rules l.board in
+    let left = moves_left g.R.Ruleset.rules l.next-iterator in
+    AllByRecursion (λ m. (R.legal m ≡ true) × (R.rank m < R.rank l.code)) left × (any_of (mover_wins R l.side) left ≡ starter_wins R l.side l.code)

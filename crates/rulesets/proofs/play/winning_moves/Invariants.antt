@@ -1,8 +1,13 @@
-use Rattle.std.proofs.Common.{◌≡◌, get_or, vec_items, filter}
-use Rattle.std.specs.List.{range_with_len}
-use Rattle.rulesets.specs.Winning.{mover_wins}
+use Rattle.std.proofs.Common.{◌≡◌, ◌++◌, vec_items}
+use Rattle.std.specs.Iterator.Adapters.{enumerate_source, enumerate_count}
+use Rattle.rulesets.specs.Remaining.{moves_left}
+use Rattle.rulesets.specs.Winning.{mover_wins, winning}
+use Rattle.rulesets.proofs.Positions.{places}
 use Rattle.rulesets.proofs.play.winning_moves.Given as goal
 
--- the winning ones among the moves tried so far
+-- the indices found so far, and then those of the winning ones among the moves left, are all of them
 abbrev pub invariant-loop-index : goal.invariant-loop-index
-invariant-loop-index g l = let R = g.R.Ruleset.rules l.board in vec_items l.indices ≡ filter (λ i. mover_wins R l.side (get_or (R.moves l.side l.code) i 0)) (range_with_len 0 l.index)
+invariant-loop-index g l =
+    let R = g.R.Ruleset.rules l.board in
+    let it = l.index-iterator in
+    vec_items l.indices ++ places (mover_wins R l.side) (enumerate_count it) (moves_left g.R.Ruleset.rules (enumerate_source it)) ≡ winning R l.side l.code

@@ -6,25 +6,25 @@ use Rattle.sealing.proofs.Writing.{written, written_none, write_more, write_full
 use Rattle.sealing.proofs.order.write_listed.Goals as goal
 use Rattle.sealing.proofs.order.write_listed.Goals.{then-contains, then-n-buffer, else-n-buffer, else-contains}
 
-pub loop-i-init : goal.loop-i-init
-loop-i-init c = (refl, omega arith, sym (written_none c.args.buffer.now))
+pub loop-node-init : goal.loop-node-init
+loop-node-init c = (refl, omega arith, sym (written_none c.args.buffer.now))
 
-pub loop-i-preserved : goal.loop-i-preserved
-loop-i-preserved c =
+pub loop-node-preserved : goal.loop-node-preserved
+loop-node-preserved c =
     let p = has c.args.set.now in
     let ks = c.args.listing.now in
-    let i = c.loop-i.i in
+    let i = c.loop-node.node-index in
     let b = c.args.buffer.now in
     let xs : List ℕ = filter p (take i ks) in
-    let e : c.loop-i.n ≡ length xs = c.loop-i.invariant.0 in
-    let was : c.loop-i.buffer ≡ written b xs = c.loop-i.invariant.2 in
-    let same : length c.loop-i.buffer ≡ length b = search rules in
+    let e : c.loop-node.n ≡ length xs = c.loop-node.invariant.0 in
+    let was : c.loop-node.buffer ≡ written b xs = c.loop-node.invariant.2 in
+    let same : length c.loop-node.buffer ≡ length b = search rules in
     elim c.if-contains.branch [
       | then-contains w ↦
           let t : p (get_or ks i 0) ≡ true = sym c.contains.ensures ∙ w.if-contains.true in
-          let next = kept_with p ks i c.loop-i-test.true t in (
-            w.n-is ∙ ap (λ n. n + 1) e ∙ sym (count_with p ks i c.loop-i-test.true t),
-            omega (arith, w.n-is, c.loop-i.invariant.1),
+          let next = kept_with p ks i c.loop-node-test.true t in (
+            w.n-is ∙ ap (λ n. n + 1) e ∙ sym (count_with p ks i c.loop-node-test.true t),
+            omega (arith, w.n-is, c.loop-node.invariant.1),
             elim w.if-n-buffer.branch [
               | then-n-buffer v ↦
                   w.buffer-is ∙ v.buffer-is ∙ ap₂ (λ (z : List ℕ) (n : ℕ). set z n (get_or ks i 0)) was e ∙ write_more b xs (get_or ks i 0) (omega (arith, v.if-n-buffer.true)) ∙ ap (written b) (sym next)
@@ -32,16 +32,16 @@ loop-i-preserved c =
             ],
           )
       | else-contains w ↦
-          let next = kept_without p ks i c.loop-i-test.true (sym c.contains.ensures ∙ w.if-contains.false) in
-          (w.n-is ∙ e ∙ ap length (sym next), omega (arith, w.n-is, c.loop-i.invariant.1), w.buffer-is ∙ was ∙ ap (written b) (sym next))
+          let next = kept_without p ks i c.loop-node-test.true (sym c.contains.ensures ∙ w.if-contains.false) in
+          (w.n-is ∙ e ∙ ap length (sym next), omega (arith, w.n-is, c.loop-node.invariant.1), w.buffer-is ∙ was ∙ ap (written b) (sym next))
     ]
 
 pub returns : goal.returns
 returns c =
     let p = has c.args.set.now in
-    let all : take c.loop-i.i c.args.listing.now ≡ c.args.listing.now = take_all c.loop-i.i c.args.listing.now (omega arith) in
-    let n : c.loop-i.n ≡ length (filter p c.args.listing.now) = c.loop-i.invariant.0 ∙ ap (λ ks. length (filter p ks)) all in
+    let all : take c.loop-node.node-index c.args.listing.now ≡ c.args.listing.now = take_all c.loop-node.node-index c.args.listing.now (omega arith) in
+    let n : c.loop-node.n ≡ length (filter p c.args.listing.now) = c.loop-node.invariant.0 ∙ ap (λ ks. length (filter p ks)) all in
     record {
       number = n;
-      written = c.loop-i.invariant.2 ∙ ap (λ ks. written c.args.buffer.now (filter p ks)) all ∙ ap (λ m. take (length c.args.buffer.now) (filter p c.args.listing.now) ++ drop m c.args.buffer.now) (sym n);
+      written = c.loop-node.invariant.2 ∙ ap (λ ks. written c.args.buffer.now (filter p ks)) all ∙ ap (λ m. take (length c.args.buffer.now) (filter p c.args.listing.now) ++ drop m c.args.buffer.now) (sym n);
     }

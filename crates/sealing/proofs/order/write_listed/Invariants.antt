@@ -4,5 +4,5 @@ use Rattle.nodesets.specs.Sets.{has}
 use Rattle.sealing.proofs.Writing.{written}
 use Rattle.sealing.proofs.order.write_listed.Given as goal
 
-abbrev pub invariant-loop-i : goal.invariant-loop-i
-invariant-loop-i l = (l.n ≡ length (filter (has l.set) (take l.i l.listing))) × (l.n ≤ l.i) × (l.buffer ≡ written l.initial.buffer (filter (has l.set) (take l.i l.listing)))
+abbrev pub invariant-loop-node : goal.invariant-loop-node
+invariant-loop-node l = (l.n ≡ length (filter (has l.set) (take l.node-index l.listing))) × (l.n ≤ l.node-index) × (l.buffer ≡ written l.initial.buffer (filter (has l.set) (take l.node-index l.listing)))

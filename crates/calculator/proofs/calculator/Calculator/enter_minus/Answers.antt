@@ -15,8 +15,7 @@ returns-in_err-setup g c =
     let d = c.args.self.now.dictionary in
     let e : c.from_residual.result ≡ Err c.in_err-setup.field-0.0 = search rules in
     record {
-      entered = λ k b x. one_refused (g.S.Store.room d.store) (g.S.Store.rows d.store) c.args.place (minus b) (c.args.place + length (codes "(minus ")) b refl c.in_err-setup.field-0.0 c.from_residual.result e (c.in_err-setup.ensures (c.args.place + length (codes "(minus ")) b x);
-      kept = λ k. k;
+      entered = λ b x. one_refused d.room d.rows c.args.place (minus b) (c.args.place + length (codes "(minus ")) b refl c.in_err-setup.field-0.0 c.from_residual.result e (c.in_err-setup.ensures (c.args.place + length (codes "(minus ")) b x);
       room = refl;
     }
 
@@ -24,9 +23,8 @@ pub returns : goal.returns
 returns g c =
     let d = c.args.self.now.dictionary in
     record {
-      entered = λ k b x. one_valued (g.S.Store.room d.store) (g.S.Store.rows d.store) c.args.place (minus b) (c.args.place + length (codes "(minus ")) b refl c.in_ok-setup.setup (c.in_ok-setup.ensures (c.args.place + length (codes "(minus ")) b x)
+      entered = λ b x. one_valued d.room d.rows c.args.place (minus b) (c.args.place + length (codes "(minus ")) b refl c.in_ok-setup.setup (c.in_ok-setup.ensures (c.args.place + length (codes "(minus ")) b x)
           (negated (position c.in_ok-setup.setup)) (ap (option_map negated) (c.in_ok-setup.ensures (c.args.place + length (codes "(minus ")) b x).0) _ _
-          (subst (λ z. ValuedAt (Sums.minus (any_rules z)) (g.S.Store.room d.store) (g.S.Store.rows d.store) c.args.place c.in_ok-setup.setup.code (answer_of c.enter.result) (g.S.Store.rows c.enter.new.self.dictionary.store)) c.new.ensures.made (c.enter.ensures.valued k));
-      kept = c.enter.ensures.kept;
+          (subst (λ z. ValuedAt (Sums.minus (any_rules z)) d.room d.rows c.args.place c.in_ok-setup.setup.code (answer_of c.enter.result) c.enter.new.self.dictionary.rows) c.new.ensures.made (c.enter.ensures.valued));
       room = c.enter.ensures.room;
     }

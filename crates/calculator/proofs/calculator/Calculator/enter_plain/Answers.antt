@@ -10,8 +10,7 @@ returns-in_err-setup g c =
     let d = c.args.self.now.dictionary in
     let e : c.from_residual.result ≡ Err c.in_err-setup.field-0.0 = search rules in
     record {
-      entered = λ k b x. one_refused (g.S.Store.room d.store) (g.S.Store.rows d.store) c.args.place (plain b) c.args.place b refl c.in_err-setup.field-0.0 c.from_residual.result e (c.in_err-setup.ensures c.args.place b x);
-      kept = λ k. k;
+      entered = λ b x. one_refused d.room d.rows c.args.place (plain b) c.args.place b refl c.in_err-setup.field-0.0 c.from_residual.result e (c.in_err-setup.ensures c.args.place b x);
       room = refl;
     }
 
@@ -19,8 +18,7 @@ pub returns : goal.returns
 returns g c =
     let d = c.args.self.now.dictionary in
     record {
-      entered = λ k b x. one_valued (g.S.Store.room d.store) (g.S.Store.rows d.store) c.args.place (plain b) c.args.place b refl c.in_ok-setup.setup (c.in_ok-setup.ensures c.args.place b x)
-          (position c.in_ok-setup.setup) (c.in_ok-setup.ensures c.args.place b x).0 _ _ (c.enter.ensures.valued k);
-      kept = c.enter.ensures.kept;
+      entered = λ b x. one_valued d.room d.rows c.args.place (plain b) c.args.place b refl c.in_ok-setup.setup (c.in_ok-setup.ensures c.args.place b x)
+          (position c.in_ok-setup.setup) (c.in_ok-setup.ensures c.args.place b x).0 _ _ (c.enter.ensures.valued);
       room = c.enter.ensures.room;
     }

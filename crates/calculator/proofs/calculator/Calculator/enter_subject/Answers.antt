@@ -10,55 +10,51 @@ use Rattle.calculator.proofs.calculator.Calculator.enter_subject.Goals as goal
 pub returns-in-Plain : goal.returns-in-Plain
 returns-in-Plain g c =
     let d = c.args.self.now.dictionary in
-    let r = g.S.Store.room d.store in
-    let rows = g.S.Store.rows d.store in
+    let r = d.room in
+    let rows = d.rows in
     record {
-      entered = λ k i s x small.
+      entered = λ i s x small.
           let (b, e, y) = plain_is i s c.in-Plain.board (subst (λ z. DescribesContent i z s) c.in-Plain.is x.content) in
-          subst₂ (λ j z. EntersSubject r rows j z (answer_of c.enter_plain.result) (g.S.Store.rows c.enter_plain.new.self.dictionary.store)) x.begins (sym e)
-          (c.enter_plain.ensures.entered k b (subst (λ j. DescribesBoard j c.in-Plain.board b) (sym x.begins) y));
-      kept = c.enter_plain.ensures.kept;
+          subst₂ (λ j z. EntersSubject r rows j z (answer_of c.enter_plain.result) c.enter_plain.new.self.dictionary.rows) x.begins (sym e)
+          (c.enter_plain.ensures.entered b (subst (λ j. DescribesBoard j c.in-Plain.board b) (sym x.begins) y));
       room = c.enter_plain.ensures.room;
     }
 
 pub returns-in-Minus : goal.returns-in-Minus
 returns-in-Minus g c =
     let d = c.args.self.now.dictionary in
-    let r = g.S.Store.room d.store in
-    let rows = g.S.Store.rows d.store in
+    let r = d.room in
+    let rows = d.rows in
     record {
-      entered = λ k i s x small.
+      entered = λ i s x small.
           let (b, e, y) = minus_is i s c.in-Minus.board (subst (λ z. DescribesContent i z s) c.in-Minus.is x.content) in
-          subst₂ (λ j z. EntersSubject r rows j z (answer_of c.enter_minus.result) (g.S.Store.rows c.enter_minus.new.self.dictionary.store)) x.begins (sym e)
-          (c.enter_minus.ensures.entered k b (subst (λ j. DescribesBoard (j + length (codes "(minus ")) c.in-Minus.board b) (sym x.begins) y));
-      kept = c.enter_minus.ensures.kept;
+          subst₂ (λ j z. EntersSubject r rows j z (answer_of c.enter_minus.result) c.enter_minus.new.self.dictionary.rows) x.begins (sym e)
+          (c.enter_minus.ensures.entered b (subst (λ j. DescribesBoard (j + length (codes "(minus ")) c.in-Minus.board b) (sym x.begins) y));
       room = c.enter_minus.ensures.room;
     }
 
 pub returns-in-Sum : goal.returns-in-Sum
 returns-in-Sum g c =
     let d = c.args.self.now.dictionary in
-    let r = g.S.Store.room d.store in
-    let rows = g.S.Store.rows d.store in
+    let r = d.room in
+    let rows = d.rows in
     record {
-      entered = λ k i s x small.
+      entered = λ i s x small.
           let (a, b, e, y, z) = sum_is i s c.in-Sum.first c.in-Sum.second (subst (λ z. DescribesContent i z s) c.in-Sum.is x.content) in
-          subst₂ (λ j z. EntersSubject r rows j z (answer_of c.enter_sum.result) (g.S.Store.rows c.enter_sum.new.self.dictionary.store)) x.begins (sym e)
-          (c.enter_sum.ensures.entered k a b (subst (λ j. DescribesBoard (j + length (codes "(sum ")) c.in-Sum.first a) (sym x.begins) y) (subst (λ j. DescribesBoard (j + length (codes "(sum " ++ (spell_board a ++ codes " "))) c.in-Sum.second b) (sym x.begins) z));
-      kept = c.enter_sum.ensures.kept;
+          subst₂ (λ j z. EntersSubject r rows j z (answer_of c.enter_sum.result) c.enter_sum.new.self.dictionary.rows) x.begins (sym e)
+          (c.enter_sum.ensures.entered a b (subst (λ j. DescribesBoard (j + length (codes "(sum ")) c.in-Sum.first a) (sym x.begins) y) (subst (λ j. DescribesBoard (j + length (codes "(sum " ++ (spell_board a ++ codes " "))) c.in-Sum.second b) (sym x.begins) z));
       room = c.enter_sum.ensures.room;
     }
 
 pub returns-in-Form : goal.returns-in-Form
 returns-in-Form g c =
     let d = c.args.self.now.dictionary in
-    let r = g.S.Store.room d.store in
-    let rows = g.S.Store.rows d.store in
+    let r = d.room in
+    let rows = d.rows in
     record {
-      entered = λ k i s x small.
+      entered = λ i s x small.
           let (f, e, y) = form_is i s c.in-Form.text (subst (λ z. DescribesContent i z s) c.in-Form.is x.content) in
-          text_read r rows i s c.in-Form.text f e y (answer_of c.enter_text.result) (g.S.Store.rows c.enter_text.new.self.dictionary.store)
-          (c.enter_text.ensures.entered k (text_small r rows i s c.in-Form.text f e y small));
-      kept = c.enter_text.ensures.kept;
+          text_read r rows i s c.in-Form.text f e y (answer_of c.enter_text.result) c.enter_text.new.self.dictionary.rows
+          (c.enter_text.ensures.entered (text_small r rows i s c.in-Form.text f e y small));
       room = c.enter_text.ensures.room;
     }

@@ -11,13 +11,12 @@ use Rattle.calculator.proofs.calculator.Calculator.enter_sum.Goals as goal
 pub returns-in_err-left : goal.returns-in_err-left
 returns-in_err-left g c =
     let d = c.args.self.now.dictionary in
-    let r = g.S.Store.room d.store in
-    let rows = g.S.Store.rows d.store in
+    let r = d.room in
+    let rows = d.rows in
     let i = c.args.place in
     let e : c.from_residual.result ≡ Err c.in_err-left.field-0.0 = search rules in
     record {
-      entered = λ k a b x y. sum_refused r rows i a b c.in_err-left.field-0.0 c.from_residual.result e (c.in_err-left.ensures.stood (left_place r rows i a b) (right_place r rows i a b) a b x y);
-      kept = λ k. k;
+      entered = λ a b x y. sum_refused r rows i a b c.in_err-left.field-0.0 c.from_residual.result e (c.in_err-left.ensures.stood (left_place r rows i a b) (right_place r rows i a b) a b x y);
       room = refl;
     }
 
@@ -40,15 +39,14 @@ overflow_add-code g c =
 pub returns : goal.returns
 returns g c =
     let d = c.args.self.now.dictionary in
-    let r = g.S.Store.room d.store in
-    let rows = g.S.Store.rows d.store in
+    let r = d.room in
+    let rows = d.rows in
     let i = c.args.place in
     let left = c.in_ok-left.left in
     let right = c.in_ok-left.right in
     record {
-      entered = λ k a b x y. sum_valued r rows i a b (c.in_ok-left.left, c.in_ok-left.right) (c.in_ok-left.ensures.stood (left_place r rows i a b) (right_place r rows i a b) a b x y) _ _
-          (subst (λ z. ValuedAt (Sums.plus (any_rules left.board) (any_rules right.board)) r rows i (left.code * z + right.code) (answer_of c.enter.result) (g.S.Store.rows c.enter.new.self.dictionary.store)) c.limit.ensures
-          (subst₂ (λ p q. ValuedAt (Sums.plus (any_rules p) (any_rules q)) r rows i (left.code * c.limit.result + right.code) (answer_of c.enter.result) (g.S.Store.rows c.enter.new.self.dictionary.store)) c.add.ensures.parts.0 c.add.ensures.parts.1 (c.enter.ensures.valued k)));
-      kept = c.enter.ensures.kept;
+      entered = λ a b x y. sum_valued r rows i a b (c.in_ok-left.left, c.in_ok-left.right) (c.in_ok-left.ensures.stood (left_place r rows i a b) (right_place r rows i a b) a b x y) _ _
+          (subst (λ z. ValuedAt (Sums.plus (any_rules left.board) (any_rules right.board)) r rows i (left.code * z + right.code) (answer_of c.enter.result) c.enter.new.self.dictionary.rows) c.limit.ensures
+          (subst₂ (λ p q. ValuedAt (Sums.plus (any_rules p) (any_rules q)) r rows i (left.code * c.limit.result + right.code) (answer_of c.enter.result) c.enter.new.self.dictionary.rows) c.add.ensures.parts.0 c.add.ensures.parts.1 (c.enter.ensures.valued)));
       room = c.enter.ensures.room;
     }

@@ -7,11 +7,10 @@ use Rattle.calculator.proofs.calculator.Calculator.enter_text.Goals as goal
 
 pub returns-in-Err : goal.returns-in-Err
 returns-in-Err g c = record {
-  entered = λ k small.
-      let x = c.in-Err.ensures.reads k in
+  entered = λ small.
+      let x = c.in-Err.ensures.reads in
       let b = reads_bound c.args.text.now.bytes.now x.holds in
       let e : c.saturating_add-place.result ≡ c.args.text.now.place + read_place c.in-Err.fault = omega (arith, c.saturating_add-place.ensures, c.place.ensures) in
       record { plain = _; entries = x.entries; holds = x.holds; answers = ap (refused_at (read_number c.in-Err.fault)) e };
-  kept = c.in-Err.ensures.kept;
   room = c.in-Err.ensures.room;
 }

@@ -15,9 +15,8 @@ returns-in_err-left g c =
     let z = c.in_err-left.ensures in
     let e : c.from_residual.result ≡ Err c.in_err-left.field-0.0 = search rules in
     record {
-      replied = λ k s u x y small more. passed_on (g.S.Store.room d.store) (g.S.Store.rows d.store) c.args.out.now c.args.out.now (g.S.Store.rows c.enter_subject.new.self.dictionary.store) (comparison s u) c.in_err-left.field-0.0 c.from_residual.result e refl
-          (Replies.Replies.first_refused (z.entered k first_place s x small));
-      kept = z.kept;
+      replied = λ s u x y small more. passed_on d.room d.rows c.args.out.now c.args.out.now c.enter_subject.new.self.dictionary.rows (comparison s u) c.in_err-left.field-0.0 c.from_residual.result e refl
+          (Replies.Replies.first_refused (z.entered first_place s x small));
       room = z.room;
     }
 
@@ -26,13 +25,12 @@ returns-in_err-right g c =
     let d = c.args.self.now.dictionary in
     let z = c.in_ok-left.ensures in
     let v = c.in_err-right.ensures in
-    let later = g.S.Store.rows c.enter_subject-2.new.self.dictionary.store in
+    let later = c.enter_subject-2.new.self.dictionary.rows in
     let e : c.from_residual-in_err-right.result ≡ Err c.in_err-right.field-0.0 = search rules in
     record {
-      replied = λ k s u x y small more. passed_on (g.S.Store.room d.store) (g.S.Store.rows d.store) c.args.out.now c.args.out.now later (comparison s u) c.in_err-right.field-0.0 c.from_residual-in_err-right.result e refl
-          (Replies.Replies.second_refused (z.entered k first_place s x small)
-          (subst (λ n. EntersSubject n (g.S.Store.rows c.enter_subject.new.self.dictionary.store) (second_place s) u (answer_of {A = ℕ} (Err c.in_err-right.field-0.0)) later) z.room (v.entered (z.kept k) (second_place s) u y more)));
-      kept = λ k. v.kept (z.kept k);
+      replied = λ s u x y small more. passed_on d.room d.rows c.args.out.now c.args.out.now later (comparison s u) c.in_err-right.field-0.0 c.from_residual-in_err-right.result e refl
+          (Replies.Replies.second_refused (z.entered first_place s x small)
+          (subst (λ n. EntersSubject n c.enter_subject.new.self.dictionary.rows (second_place s) u (answer_of {A = ℕ} (Err c.in_err-right.field-0.0)) later) z.room (v.entered (second_place s) u y more)));
       room = v.room ∙ z.room;
     }
 
@@ -41,11 +39,10 @@ returns-in_err-comparison g c =
     let z = c.in_ok-left.ensures in
     let v = c.in_ok-right.ensures in
     record {
-      replied = λ k s u x y small more.
-          let a = z.entered k first_place s x small in
-          let b = v.entered (z.kept k) (second_place s) u y more in
-          absurd (comparison_known (c.in_err-comparison.ensures (v.kept (z.kept k))) (subject_stays a b) (subject_in b));
-      kept = λ k. v.kept (z.kept k);
+      replied = λ s u x y small more.
+          let a = z.entered first_place s x small in
+          let b = v.entered (second_place s) u y more in
+          absurd (comparison_known (c.in_err-comparison.ensures) (subject_stays a b) (subject_in b));
       room = v.room ∙ z.room;
     }
 
@@ -54,13 +51,12 @@ returns g c =
     let d = c.args.self.now.dictionary in
     let z = c.in_ok-left.ensures in
     let v = c.in_ok-right.ensures in
-    let between = g.S.Store.rows c.enter_subject.new.self.dictionary.store in
-    let later = g.S.Store.rows c.enter_subject-2.new.self.dictionary.store in
+    let between = c.enter_subject.new.self.dictionary.rows in
+    let later = c.enter_subject-2.new.self.dictionary.rows in
     record {
-      replied = λ k s u x y small more.
-          compare_replied (g.S.Store.room d.store) (g.S.Store.rows d.store) c.args.out.now c.put_comparison.new.out later s u c.in_ok-left.left c.in_ok-right.right between c.in_ok-comparison.comparison c.put_comparison.result
-          (z.entered k first_place s x small) (subst (λ n. EntersSubject n between (second_place s) u (told c.in_ok-right.right) later) z.room (v.entered (z.kept k) (second_place s) u y more))
-          (c.in_ok-comparison.ensures (v.kept (z.kept k))) c.put_comparison.ensures.behind c.put_comparison.ensures.written;
-      kept = λ k. v.kept (z.kept k);
+      replied = λ s u x y small more.
+          compare_replied d.room d.rows c.args.out.now c.put_comparison.new.out later s u c.in_ok-left.left c.in_ok-right.right between c.in_ok-comparison.comparison c.put_comparison.result
+          (z.entered first_place s x small) (subst (λ n. EntersSubject n between (second_place s) u (told c.in_ok-right.right) later) z.room (v.entered (second_place s) u y more))
+          (c.in_ok-comparison.ensures) c.put_comparison.ensures.behind c.put_comparison.ensures.written;
       room = v.room ∙ z.room;
     }

@@ -12,9 +12,8 @@ returns-in_err-node g c =
     let z = c.in_err-node.ensures in
     let e : c.from_residual.result ≡ Err c.in_err-node.field-0.0 = search rules in
     record {
-      replied = λ k s x small. passed_on (g.S.Store.room d.store) (g.S.Store.rows d.store) c.args.out.now c.args.out.now (g.S.Store.rows c.enter_subject.new.self.dictionary.store) (value s) c.in_err-node.field-0.0 c.from_residual.result e refl
-          (Replies.Replies.value_refused (z.entered k value_place s x small));
-      kept = z.kept;
+      replied = λ s x small. passed_on d.room d.rows c.args.out.now c.args.out.now c.enter_subject.new.self.dictionary.rows (value s) c.in_err-node.field-0.0 c.from_residual.result e refl
+          (Replies.Replies.value_refused (z.entered value_place s x small));
       room = z.room;
     }
 
@@ -23,10 +22,9 @@ returns g c =
     let d = c.args.self.now.dictionary in
     let z = c.in_ok-node.ensures in
     record {
-      replied = λ k s x small.
-          let y = z.entered k value_place s x small in
-          value_replied (g.S.Store.room d.store) (g.S.Store.rows d.store) c.args.out.now c.write_value.new.out (g.S.Store.rows c.enter_subject.new.self.dictionary.store) s c.in_ok-node.node c.write_value.result y
-          (c.write_value.ensures (z.kept k) (subject_in y));
-      kept = z.kept;
+      replied = λ s x small.
+          let y = z.entered value_place s x small in
+          value_replied d.room d.rows c.args.out.now c.write_value.new.out c.enter_subject.new.self.dictionary.rows s c.in_ok-node.node c.write_value.result y
+          (c.write_value.ensures (subject_in y));
       room = z.room;
     }

@@ -6,7 +6,7 @@ use Rattle.calculator.proofs.Values.{outcome_known, outcome_told, printed_bound,
 use Rattle.calculator.proofs.calculator.Calculator.write_value.Goals as goal
 
 pub returns-in_err-outcome : goal.returns-in_err-outcome
-returns-in_err-outcome g c k l = absurd (outcome_known (c.in_err-outcome.ensures k) l)
+returns-in_err-outcome g c l = absurd (outcome_known (c.in_err-outcome.ensures) l)
 
 pub overflow_add-start : goal.overflow_add-start
 overflow_add-start g c = let m = most_16 c.args.node (search rules) in let e = c.digits-start.ensures in search rules
@@ -18,17 +18,17 @@ pub slice_bounds-print-start : goal.slice_bounds-print-start
 slice_bounds-print-start g c = let m = most_16 c.args.node (search rules) in let e = c.digits-start.ensures in search rules
 
 pub returns-in_err-length : goal.returns-in_err-length
-returns-in_err-length g c k l =
+returns-in_err-length g c l =
     let m = most_16 c.args.node (search rules) in
     let e : c.from_residual-in_err-length.result ≡ Err (Print c.in_err-length.field-0.0) = search rules in
-    value_refused (g.S.Store.rows c.args.self.now.dictionary.store) c.args.node l c.args.out.now c.requires (c.digits-start.result + 3) (omega (arith, c.digits-start.ensures)) c.in_ok-outcome.outcome (outcome_told (c.in_ok-outcome.ensures k)) (ap (λ z. z + 3) c.digits-start.ensures)
+    value_refused c.args.self.now.dictionary.rows c.args.node l c.args.out.now (search rules) (c.digits-start.result + 3) (omega (arith, c.digits-start.ensures)) c.in_ok-outcome.outcome (outcome_told (c.in_ok-outcome.ensures)) (ap (λ z. z + 3) c.digits-start.ensures)
     (Print c.in_err-length.field-0.0) c.print.new.out c.from_residual-in_err-length.result e refl c.in_err-length.ensures.printed
 
 pub overflow_add-result : goal.overflow_add-result
 overflow_add-result g c = let m = most_16 c.args.node (search rules) in let e = c.digits-start.ensures in let b = printed_bound c.in_ok-length.ensures.printed.prints in search rules
 
 pub returns : goal.returns
-returns g c k l =
+returns g c l =
     let m = most_16 c.args.node (search rules) in
-    value_written (g.S.Store.rows c.args.self.now.dictionary.store) c.args.node l c.args.out.now c.requires (c.digits-start.result + 3) (omega (arith, c.digits-start.ensures)) c.in_ok-outcome.outcome (outcome_told (c.in_ok-outcome.ensures k)) (ap (λ z. z + 3) c.digits-start.ensures)
+    value_written c.args.self.now.dictionary.rows c.args.node l c.args.out.now (search rules) (c.digits-start.result + 3) (omega (arith, c.digits-start.ensures)) c.in_ok-outcome.outcome (outcome_told (c.in_ok-outcome.ensures)) (ap (λ z. z + 3) c.digits-start.ensures)
     c.in_ok-length.length c.print.new.out c.put_head.new.out c.in_ok-length.ensures.printed c.put_head.ensures.written

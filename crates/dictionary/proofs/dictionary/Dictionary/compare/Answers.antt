@@ -5,15 +5,17 @@ use Rattle.dictionary.proofs.dictionary.Dictionary.compare.Goals as goal
 use Rattle.dictionary.proofs.dictionary.Dictionary.compare.Goals.{then-a-count-via-then-a-count, then-a-count-via-else-a-count+then-b-count}
 
 pub returns-then-a-count : goal.returns-then-a-count
-returns-then-a-count g c kept =
+returns-then-a-count g c =
     let n = c.count-count.ensures.number in
-    compares_not (g.S.Store.rows c.args.self.now.store) c.args.self.now.tables kept c.args.a c.args.b
-    (elim c.then-a-count.branch [ then-a-count-via-then-a-count w ↦ let h = w.if-a-count.true in inl (omega arith) | then-a-count-via-else-a-count+then-b-count w ↦ let h = w.if-b-count.true in inr (omega arith) ])
+    rw (← c.self.view_is)
+    (compares_not (g.S.Store.rows c.self.inside.store) c.self.inside.tables c.self.invariant c.args.a c.args.b
+    (elim c.then-a-count.branch [ then-a-count-via-then-a-count w ↦ let h = w.if-a-count.true in inl (omega arith) | then-a-count-via-else-a-count+then-b-count w ↦ let h = w.if-b-count.true in inr (omega arith) ]))
 
 pub returns : goal.returns
-returns g c kept =
+returns g c =
     let n = c.count-count.ensures.number in
     let h = c.if-a-count.false in
     let l = c.if-b-count.false in
-    compares (g.S.Store.rows c.args.self.now.store) c.args.self.now.tables kept c.args.a c.args.b (omega arith) (omega arith) c.is_as_good-above.result c.is_as_good-below.result
-    c.by_play.result c.is_as_good-above.ensures c.is_as_good-below.ensures c.by_play.ensures.value
+    rw (← c.self.view_is)
+    (compares (g.S.Store.rows c.self.inside.store) c.self.inside.tables c.self.invariant c.args.a c.args.b (omega arith) (omega arith) c.is_as_good-above.result c.is_as_good-below.result
+    c.by_play.result c.is_as_good-above.ensures c.is_as_good-below.ensures c.by_play.ensures.value)

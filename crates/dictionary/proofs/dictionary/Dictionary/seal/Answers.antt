@@ -1,79 +1,107 @@
 -- What the tables find is what sealing answers, and what the store takes the tables take too.
-use Rattle.std.proofs.Common.{◌≡◌, Some, Ok, Err, sym, refl, ap, ◌∙◌, subst, arith}
-use mir.Facts.{Fits-below}
-use Rattle.std.proofs.lemmas.Result.{err_from_is_err_and}
+use Rattle.std.proofs.Common.{◌≡◌, Some, None, Ok, Err, sym, ap, ◌∙◌, subst, rules}
 use Rattle.nodesets.specs.Pairs.{by}
-use Rattle.sealing.specs.Seals.{row_of}
+use Rattle.sealing.specs.declared.seal.Sealed.TheVariants.{New, Node}
+use Rattle.sealing.specs.Seals.{SealsTo, row_of}
 use Rattle.stores.specs.Reading.{lists_of}
 use Rattle.stores.specs.Rows.{append_answer, append_rows}
 use Rattle.calls.specs.Sealing.{SealsNumbers}
-use Rattle.dictionary.specs.Faults.{answer_of}
-use Rattle.dictionary.proofs.Added.{full_kept, full_seals, new_kept, new_seals}
+use Rattle.dictionary.specs.declared.fault.DictionaryFault.TheVariants.{Store}
+use Rattle.dictionary.specs.Faults.{answer_of, seal_fault}
+use Rattle.dictionary.proofs.Added.{full_seals, new_kept, new_seals}
 use Rattle.dictionary.proofs.Appended.{row_is, row_there}
-use Rattle.dictionary.proofs.Sealed.{seals_unknown, seals_node, seals_wide}
-use Rattle.dictionary.proofs.Tied.{few}
+use Rattle.dictionary.proofs.Sealed.{seals_node, seals_refused}
+use Rattle.dictionary.proofs.Soundness.{kept_sound}
 use Rattle.dictionary.proofs.dictionary.Dictionary.seal.Goals as goal
 
-pub overflow_cast-result : goal.overflow_cast-result
-overflow_cast-result g c = let h = c.in-Node.ensures.seals.1 in let k = few c.args.self.now.tables in Fits-below {n = 384} tt (omega arith)
+pub returns-in_err-node-clause-seals : goal.returns-in_err-node-clause-seals
+returns-in_err-node-clause-seals g c l lists =
+    let rows = g.S.Store.rows c.self.inside.store in
+    let room = g.S.Store.room c.self.inside.store in
+    let e : c.from_residual.result ≡ Err (seal_fault c.in_err-node.field-0.0) = search rules in
+    rw (← c.self.view_is)
+    (subst (λ a. SealsNumbers room rows l (answer_of a) rows) (sym e) (seals_refused rows c.self.inside.tables c.self.invariant room (by c.args.moves.now) l lists c.in_err-node.field-0.0 c.in_err-node.ensures.seals))
 
-pub returns-in_default : goal.returns-in_default
-returns-in_default g c = absurd (row_there c.args.self.now.tables (by c.in-New.form) c.row.result c.row.ensures c.in_default.is c.in-New.ensures.seals.1.narrow)
+pub returns-in_err-node-clause-sound : goal.returns-in_err-node-clause-sound
+returns-in_err-node-clause-sound g c = rw (← c.self.view_is) (kept_sound _ c.self.inside.tables _ c.self.invariant (g.met.S.Store.lawful c.self.inside.store))
 
-pub returns-in_err-node-in-New : goal.returns-in_err-node-in-New
-returns-in_err-node-in-New g c =
-    let t = c.args.self.now.tables in
-    let rows = g.S.Store.rows c.args.self.now.store in
-    let room = g.S.Store.room c.args.self.now.store in
+pub returns-in_err-row-in-New-clause-seals : goal.returns-in_err-row-in-New-clause-seals
+returns-in_err-row-in-New-clause-seals g c l lists =
+    let t = c.self.inside.tables in
+    let rows = g.S.Store.rows c.self.inside.store in
+    let room = g.S.Store.room c.self.inside.store in
+    let o = by c.args.moves.now in
+    let found : SealsTo (Ok (New c.in-New.form)) t o = subst (λ x. SealsTo (Ok x) t o) c.in-New.is c.in_ok-node.ensures.seals in
+    let new = found.1 in
     let r = row_of t (by c.in-New.form) in
-    let new = c.in-New.ensures.seals.1 in
-    let is : lists_of c.in-Some.row ≡ r = row_is t (by c.in-New.form) (Some c.in-Some.row) c.in-Some.row c.in-Some.ensures refl in
+    let none : c.row.result ≡ None = search rules in
+    absurd (row_there t (by c.in-New.form) c.row.result c.row.ensures none new.narrow)
+
+pub returns-in_err-row-in-New-clause-sound : goal.returns-in_err-row-in-New-clause-sound
+returns-in_err-row-in-New-clause-sound g c = rw (← c.self.view_is) (kept_sound _ c.self.inside.tables _ c.self.invariant (g.met.S.Store.lawful c.self.inside.store))
+
+pub returns-in_err-node-in-New-clause-seals : goal.returns-in_err-node-in-New-clause-seals
+returns-in_err-node-in-New-clause-seals g c l lists =
+    let t = c.self.inside.tables in
+    let rows = g.S.Store.rows c.self.inside.store in
+    let room = g.S.Store.room c.self.inside.store in
+    let o = by c.args.moves.now in
+    let found : SealsTo (Ok (New c.in-New.form)) t o = subst (λ x. SealsTo (Ok x) t o) c.in-New.is c.in_ok-node.ensures.seals in
+    let new = found.1 in
+    let r = row_of t (by c.in-New.form) in
+    let some : c.row.result ≡ Some c.in_ok-row-in-New.row = search rules in
+    let is : lists_of c.in_ok-row-in-New.row ≡ r = row_is t (by c.in-New.form) c.row.result c.in_ok-row-in-New.row c.row.ensures some in
     let went : g.S.Store.rows c.append.new.self ≡ append_rows rows room r = c.append.ensures.rows ∙ ap (append_rows rows room) is in
     let e : Err c.in_err-node-in-New.field-0.0 ≡ append_answer rows room r = c.in_err-node-in-New.ensures.answer ∙ ap (append_answer rows room) is in
-    let p = err_from_is_err_and c.from_residual.result c.from_residual.ensures.1 in
-    record {
-      seals = λ kept l lists.
-          subst (λ a. SealsNumbers room rows l (answer_of a) (g.S.Store.rows c.append.new.self)) (sym (p.1 ∙ ap Err p.2))
-          (full_seals rows t kept room (by c.args.moves.now) r new (g.S.Store.rows c.append.new.self) went c.in_err-node-in-New.field-0.0 e l lists);
-      kept = λ kept. full_kept rows t kept room (by c.args.moves.now) r new (g.S.Store.rows c.append.new.self) went c.in_err-node-in-New.field-0.0 e;
-      room = c.append.ensures.room;
-    }
+    let after = g.S.Store.rows c.append.new.self in
+    let f : c.from_residual-in_err-node-in-New.result ≡ Err (Store c.in_err-node-in-New.field-0.0) = search rules in
+    rw (← c.self.view_is)
+    (subst (λ a. SealsNumbers room rows l (answer_of a) after) (sym f) (full_seals rows t c.self.invariant room o r new after went c.in_err-node-in-New.field-0.0 e l lists))
 
-pub returns-in-Unknown : goal.returns-in-Unknown
-returns-in-Unknown g c = record {
-  seals = λ kept l lists. seals_unknown (g.S.Store.rows c.args.self.now.store) c.args.self.now.tables kept (g.S.Store.room c.args.self.now.store) (by c.args.moves.now) l lists c.in-Unknown.ensures.seals;
-  kept = λ kept. kept;
-  room = refl;
-}
+pub returns-in_err-node-in-New-clause-sound : goal.returns-in_err-node-in-New-clause-sound
+returns-in_err-node-in-New-clause-sound g c = rw (← c.self.view_is) (kept_sound _ c.self.inside.tables _ c.self.invariant (g.met.S.Store.lawful c.self.inside.store))
 
-pub returns-in-Wide : goal.returns-in-Wide
-returns-in-Wide g c = record {
-  seals = λ kept l lists. seals_wide (g.S.Store.rows c.args.self.now.store) c.args.self.now.tables kept (g.S.Store.room c.args.self.now.store) (by c.args.moves.now) l lists c.in-Wide.ensures.seals;
-  kept = λ kept. kept;
-  room = refl;
-}
-
-pub returns-in-Node : goal.returns-in-Node
-returns-in-Node g c = record {
-  seals = λ kept l lists. seals_node (g.S.Store.rows c.args.self.now.store) c.args.self.now.tables kept (g.S.Store.room c.args.self.now.store) (by c.args.moves.now) l lists c.in-Node.node c.in-Node.ensures.seals;
-  kept = λ kept. kept;
-  room = refl;
-}
-
-pub returns-in_ok-node-in-New : goal.returns-in_ok-node-in-New
-returns-in_ok-node-in-New g c =
-    let t = c.args.self.now.tables in
-    let rows = g.S.Store.rows c.args.self.now.store in
-    let room = g.S.Store.room c.args.self.now.store in
+pub invariant_of-self-in-New : goal.invariant_of-self-in-New
+invariant_of-self-in-New g c =
+    let t = c.self.inside.tables in
+    let rows = g.S.Store.rows c.self.inside.store in
+    let room = g.S.Store.room c.self.inside.store in
+    let o = by c.args.moves.now in
+    let found : SealsTo (Ok (New c.in-New.form)) t o = subst (λ x. SealsTo (Ok x) t o) c.in-New.is c.in_ok-node.ensures.seals in
+    let new = found.1 in
     let r = row_of t (by c.in-New.form) in
-    let new = c.in-New.ensures.seals.1 in
-    let is : lists_of c.in-Some.row ≡ r = row_is t (by c.in-New.form) (Some c.in-Some.row) c.in-Some.row c.in-Some.ensures refl in
+    let some : c.row.result ≡ Some c.in_ok-row-in-New.row = search rules in
+    let is : lists_of c.in_ok-row-in-New.row ≡ r = row_is t (by c.in-New.form) c.row.result c.in_ok-row-in-New.row c.row.ensures some in
     let went : g.S.Store.rows c.append.new.self ≡ append_rows rows room r = c.append.ensures.rows ∙ ap (append_rows rows room) is in
     let e : Ok c.in_ok-node-in-New.node ≡ append_answer rows room r = c.in_ok-node-in-New.ensures.answer ∙ ap (append_answer rows room) is in
-    record {
-      seals = λ kept l lists. new_seals rows t kept room (by c.args.moves.now) r new (g.S.Store.rows c.append.new.self) went c.in_ok-node-in-New.node e l lists;
-      kept = λ kept.
-          new_kept rows t kept room (by c.args.moves.now) r new (g.S.Store.rows c.append.new.self) went c.in_ok-node-in-New.node e (g.met.S.Store.lawful c.args.self.now.store).most_room
-          c.extend.result c.extend.new.self c.extend.ensures;
-      room = c.append.ensures.room;
-    }
+    new_kept rows t c.self.invariant room o r new (g.S.Store.rows c.append.new.self) went c.in_ok-node-in-New.node e (g.met.S.Store.lawful c.self.inside.store).most_room c.extend.result c.extend.new.self c.extend.ensures
+
+pub returns-in-Node-clause-seals : goal.returns-in-Node-clause-seals
+returns-in-Node-clause-seals g c l lists =
+    let t = c.self.inside.tables in
+    let rows = g.S.Store.rows c.self.inside.store in
+    let room = g.S.Store.room c.self.inside.store in
+    let o = by c.args.moves.now in
+    let found : SealsTo (Ok (Node c.in-Node.node)) t o = subst (λ x. SealsTo (Ok x) t o) c.in-Node.is c.in_ok-node.ensures.seals in
+    rw (← c.self.view_is) (seals_node rows t c.self.invariant room o l lists c.in-Node.node found)
+
+pub returns-in-Node-clause-sound : goal.returns-in-Node-clause-sound
+returns-in-Node-clause-sound g c = rw (← c.self.view_is) (kept_sound _ c.self.inside.tables _ c.self.invariant (g.met.S.Store.lawful c.self.inside.store))
+
+pub returns-in_ok-node-in-New-clause-seals : goal.returns-in_ok-node-in-New-clause-seals
+returns-in_ok-node-in-New-clause-seals g c l lists =
+    let t = c.self.inside.tables in
+    let rows = g.S.Store.rows c.self.inside.store in
+    let room = g.S.Store.room c.self.inside.store in
+    let o = by c.args.moves.now in
+    let found : SealsTo (Ok (New c.in-New.form)) t o = subst (λ x. SealsTo (Ok x) t o) c.in-New.is c.in_ok-node.ensures.seals in
+    let new = found.1 in
+    let r = row_of t (by c.in-New.form) in
+    let some : c.row.result ≡ Some c.in_ok-row-in-New.row = search rules in
+    let is : lists_of c.in_ok-row-in-New.row ≡ r = row_is t (by c.in-New.form) c.row.result c.in_ok-row-in-New.row c.row.ensures some in
+    let went : g.S.Store.rows c.append.new.self ≡ append_rows rows room r = c.append.ensures.rows ∙ ap (append_rows rows room) is in
+    let e : Ok c.in_ok-node-in-New.node ≡ append_answer rows room r = c.in_ok-node-in-New.ensures.answer ∙ ap (append_answer rows room) is in
+    rw (← c.self.view_is) (new_seals rows t c.self.invariant room o r new (g.S.Store.rows c.append.new.self) went c.in_ok-node-in-New.node e l lists)
+
+pub returns-in_ok-node-in-New-clause-sound : goal.returns-in_ok-node-in-New-clause-sound
+returns-in_ok-node-in-New-clause-sound g c = rw (← c.self.view_is) (kept_sound _ c.self.inside.tables _ c.self.invariant (g.met.S.Store.lawful c.self.inside.store))

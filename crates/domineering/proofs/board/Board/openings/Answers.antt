@@ -4,13 +4,17 @@ use Rattle.domineering.specs.Size.{columns_high}
 use Rattle.domineering.proofs.Masks.{upright_bit, flat_bit}
 use Rattle.domineering.proofs.board.Board.openings.Goals as goal
 
-pub overflow_shr-result : goal.overflow_shr-result
-overflow_shr-result c = let b = c.args.self.now in omega (arith, columns_high b.rows b.columns b.small)
+pub overflow_shr-openings : goal.overflow_shr-openings
+overflow_shr-openings c = let b = c.args.self.now in omega (arith, columns_high b.rows b.columns b.small)
 
 pub returns-in-Left : goal.returns-in-Left
-returns-in-Left c i = let b = c.args.self.now in rw c.in-Left.is (upright_bit b.rows b.columns c.args.code c.empty-empty.result c.empty-empty.ensures i)
+returns-in-Left c =
+    let b = c.args.self.now in
+    let told = c.in_ok-empty.ensures in
+    rw c.in-Left.is (told.0, upright_bit b.rows b.columns c.args.code c.in_ok-empty.empty told.1)
 
 pub returns-in-Right : goal.returns-in-Right
-returns-in-Right c i =
+returns-in-Right c =
     let b = c.args.self.now in
-    rw c.in-Right.is (flat_bit b.rows b.columns c.args.code c.empty-empty.result c.empty-empty.ensures b.inner b.rowwise i)
+    let told = c.in_ok-empty.ensures in
+    rw c.in-Right.is (told.0, flat_bit b.rows b.columns c.args.code c.in_ok-empty.empty told.1 b.inner b.rowwise)

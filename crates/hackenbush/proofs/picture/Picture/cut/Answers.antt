@@ -1,12 +1,12 @@
 -- The flood without the edge tells what stays up, and with it whether the code is legal.
-use Rattle.std.proofs.Common.{inl, inr, arith}
+use Rattle.std.proofs.Common.{◌∙◌, inl, inr, arith}
 use Rattle.std.proofs.lemmas.Bool.{cases_Bool}
 use Rattle.hackenbush.specs.Hackenbush.{legal}
 use Rattle.hackenbush.specs.Pictures.{edges_of}
 use Rattle.hackenbush.proofs.Flags.{bit_within}
 use Rattle.hackenbush.specs.Reading.{limit_is}
 use Rattle.hackenbush.specs.Standing.{legal_found}
-use Rattle.hackenbush.proofs.Cutting.{picture_others, picture_all, cut_made, cut_refused}
+use Rattle.hackenbush.proofs.Cutting.{picture_others, picture_all, cut_told}
 use Rattle.hackenbush.proofs.picture.Picture.cut.Goals as goal
 
 pub returns-then-code-self : goal.returns-then-code-self
@@ -24,10 +24,7 @@ run-after-requires c = picture_others c.args.self.now c.args.code c.args.place c
 pub run-whole-requires : goal.run-whole-requires
 run-whole-requires c = picture_all c.args.self.now c.args.code c.args.place c.requires (omega arith) c.if-code-self.false _ _ c.run-after.ensures
 
-pub returns-then-whole-eq0 : goal.returns-then-whole-eq0
-returns-then-whole-eq0 c =
-    cut_made c.args.self.now c.args.code c.args.place c.requires (omega arith) c.if-code-self.false _ _ c.run-after.ensures _ _ c.run-whole.ensures c.if-whole-eq0.true
-
-pub returns-else-whole-eq0 : goal.returns-else-whole-eq0
-returns-else-whole-eq0 c =
-    cut_refused c.args.self.now c.args.code c.args.place c.requires (omega arith) c.if-code-self.false _ _ c.run-after.ensures _ _ c.run-whole.ensures c.if-whole-eq0.false
+pub returns : goal.returns
+returns c =
+    c.then_some.ensures
+    ∙ cut_told c.args.self.now c.args.code c.args.place c.requires (omega arith) c.if-code-self.false _ _ c.run-after.ensures _ _ c.run-whole.ensures

@@ -1,14 +1,18 @@
-use Rattle.std.proofs.Common.{◌<◌, arith}
-use Rattle.lines.proofs.Nesting.{Released, released_left, released_right, digits_less}
+use Rattle.std.proofs.Common.{◌≡◌, [], ◌∷◌, length, sym, ap, ◌∙◌, subst, arith, length-append}
+use Rattle.lines.specs.Machine.{depth}
+use Rattle.lines.specs.TextSpots.{outers}
+use Rattle.lines.proofs.Nesting.{outers_push, released}
 use Rattle.lines.proofs.nest.Nest.close.Goals as goal
-use Rattle.lines.proofs.nest.Nest.close.Goals.{then-self-eq1, else-self-eq1}
+
+pub invariant_of-result : goal.invariant_of-result
+invariant_of-result c =
+    let e = c.in_ok-spot.ensures.items in
+    let r = released c.pop.new.self.items c.in_ok-spot.spot (subst (λ z. depth (outers z) ≡ length z) e c.args.self.waits) in
+    let k = ap length e in
+    let l = length-append c.pop.new.self.items (c.in_ok-spot.spot ∷ []) in
+    let f = c.args.self.few in
+    let w = r.0 in
+    record { waits = r.1; few = omega arith }
 
 pub returns : goal.returns
-returns c =
-    let l : 0 < c.args.self.waiting = omega (arith, c.if-self-eq0.false) in
-    let few = c.requires.fits.few in
-    let h : Released c.args.self.waiting c.args.self.rights c.if-self-eq1.spot = elim c.if-self-eq1.branch [
-      | then-self-eq1 w ↦ released_right c.args.self.waiting c.args.self.rights c.if-self-eq1.spot l w.if-self-eq1.true w.spot-is
-      | else-self-eq1 w ↦ released_left c.args.self.waiting c.args.self.rights c.if-self-eq1.spot l w.if-self-eq1.false w.spot-is
-    ] in
-    (h.0, record { digits = digits_less c.args.self.waiting c.args.self.rights c.requires.fits.digits l; few = omega arith })
+returns c = sym (ap outers c.in_ok-spot.ensures.items ∙ outers_push c.pop.new.self.items c.in_ok-spot.spot)

@@ -1,45 +1,25 @@
-use Rattle.std.proofs.Common.{[], ◌∷◌, refl, ◌∙◌}
+use Rattle.std.proofs.Common.{[], ◌∷◌, refl}
 use Rattle.std.proofs.lemmas.Result.{err_from_is_err_and}
 use Rattle.lines.specs.Machine.{line, line_word}
 use Rattle.lines.specs.Reading.{QuestionRead, QuestionRest}
-use Rattle.lines.specs.Words.{ask_word, ask_rest}
-use Rattle.lines.proofs.Joining.{word_early, word_wrong, word_fails, word_goes}
-use Rattle.lines.proofs.Letters.{ask_letters, ask_quiet, ask_begins}
-use Rattle.lines.proofs.Wholes.{tail, question_read_of}
+use Rattle.lines.specs.Words.{ask_word}
+use Rattle.lines.proofs.Passing.{failed_after}
+use Rattle.lines.proofs.Wholes.{tail, headed, question_read_of}
 use Rattle.lines.proofs.reader.Reader.question.Goals as goal
 
 pub returns-in_err-expect : goal.returns-in_err-expect
 returns-in_err-expect c =
     let p = err_from_is_err_and c.from_residual.result c.from_residual.ensures.1 in
-    let h = c.in_err-expect.ensures in
-    rw (p.1, p.2) (record { same = h.same; read = h.read line (line_word ∷ []) refl refl })
+    rw (p.1, p.2) (c.in_err-expect.ensures line (line_word ∷ []) refl refl)
 
-pub returns-in_err-peek : goal.returns-in_err-peek
-returns-in_err-peek c =
-    let p = err_from_is_err_and c.from_residual-in_err-peek.result c.from_residual-in_err-peek.ensures.1 in
-    let o = c.in_ok-expect.ensures in
-    let h = c.in_err-peek.ensures in
-    rw (p.1, p.2) (record { same = o.same; read = word_early o.same (o.read line (line_word ∷ []) refl refl) _ h.0 h.1 })
-
-pub returns-in_default : goal.returns-in_default
-returns-in_default c =
-    let o = c.in_ok-expect.ensures in
-    let h = c.in_ok-peek.ensures in
-    record { same = o.same; read = word_wrong o.same (o.read line (line_word ∷ []) refl refl) c.in_ok-peek.field-0 h.0 h.1 c.in_default.ensures }
-
-pub returns-in_err-word : goal.returns-in_err-word
-returns-in_err-word c =
-    let p = err_from_is_err_and c.from_residual-in_err-word.result c.from_residual-in_err-word.ensures.1 in
-    let o = c.in_ok-expect.ensures in
-    let h = c.in_ok-peek.ensures in
-    let q = c.in_err-word.ensures in
-    rw (p.1, p.2) (record { same = q.same ∙ o.same; read = word_fails o.same (o.read line (line_word ∷ []) refl refl) c.in_ok-peek.field-0 h.0 h.1 (ask_word c.in-Some.ask) _ c.word.ensures c.in-Some.ensures (ask_letters c.in-Some.ask) (ask_rest c.in-Some.ask) (ask_quiet c.in-Some.ask) (ask_begins c.in-Some.ask) _ q.read })
+pub returns-in_err-ask : goal.returns-in_err-ask
+returns-in_err-ask c =
+    let p = err_from_is_err_and c.from_residual-in_err-ask.result c.from_residual-in_err-ask.ensures.1 in
+    rw (p.1, p.2) (failed_after (c.in_ok-expect.ensures line (line_word ∷ []) refl refl) c.in_err-ask.ensures)
 
 pub returns : goal.returns
 returns c =
-    let o = c.in_ok-expect.ensures in
-    let h = c.in_ok-peek.ensures in
-    let q = c.in_ok-word.ensures in
-    let g = word_goes o.same (o.read line (line_word ∷ []) refl refl) c.in_ok-peek.field-0 h.0 h.1 (ask_word c.in-Some.ask) _ c.word.ensures c.in-Some.ensures (ask_letters c.in-Some.ask) (ask_rest c.in-Some.ask) (ask_quiet c.in-Some.ask) (ask_begins c.in-Some.ask) q.read in
-    let r = c.asked.ensures in
-    record { same = r.same ∙ (q.same ∙ o.same); read = tail _ c.asked.result (QuestionRest c.in-Some.ask c.word-2.new.self.at) (QuestionRead c.args.self.now.at) (q.same ∙ o.same) g (λ a w p. question_read_of c.in-Some.ask a w g.spans.ends p) r.read }
+    let ask = c.in_ok-ask.ask in
+    let k = c.in_ok-ask.ensures in
+    let g = headed (ask_word ask) (c.in_ok-expect.ensures line (line_word ∷ []) refl refl) k.1 k.2 in
+    tail _ c.asked.result (QuestionRest ask c.keyword.new.self.at) (QuestionRead c.args.self.now.at) g (λ a w p. question_read_of ask a w g.goes.spans.ends p) c.asked.ensures

@@ -1,22 +1,10 @@
 -- Word by word.
-use Rattle.std.proofs.Common.{not, ◌&&◌, refl, arith, rules}
-use lib.Bits.{bit_and, bit_xor}
-use Rattle.std.proofs.lemmas.List.{length-set}
-use Rattle.bits.proofs.Words.{bit_less}
-use Rattle.nodesets.proofs.Words.{words_done, words_left, mem_each}
+use Rattle.std.proofs.Common.{◌≡◌, ◌-◌, not, get_or, bit_and, ◌&&◌, ◌∙◌, ap, refl, rules}
+use Rattle.bits.specs.Bits.{bit}
+use Rattle.nodesets.proofs.Words.{mem_each, bit_without}
 use Rattle.nodesets.proofs.nodeset.NodeSet.minus.Goals as goal
-
-pub loop-i-init : goal.loop-i-init
-loop-i-init c = (search rules, λ k h. absurd (omega arith), λ k h. refl)
-
-pub loop-i-preserved : goal.loop-i-preserved
-loop-i-preserved c = (
-  simp length-set c.loop-i.invariant.0,
-  words_done (λ a b. bit_xor a (bit_and a b)) c.args.self.now.words c.args.other.now.words c.loop-i.self.words c.loop-i.i (omega arith) c.loop-i.invariant.1 c.loop-i.invariant.2,
-  words_left (λ a b. bit_xor a (bit_and a b)) c.args.self.now.words c.args.other.now.words c.loop-i.self.words c.loop-i.i (omega arith) c.loop-i.invariant.1 c.loop-i.invariant.2,
-)
 
 pub returns : goal.returns
 returns c =
-    mem_each (λ a b. bit_xor a (bit_and a b)) (λ a b. a && not b) bit_less refl c.args.self.now.words c.args.other.now.words c.loop-i.self.words (search rules) (search rules) c.loop-i.invariant.0
-    (λ i h. c.loop-i.invariant.1 i (omega arith))
+    mem_each (λ a b. a && not b) refl c.args.self.now.words c.args.other.now.words c.by_words.result.words (search rules) (search rules) c.by_words.result.six
+    (λ i j h l. let r = c.by_words.ensures i h in let e : get_or c.by_words.result.words i 0 ≡ bit_and (get_or c.args.self.now.words i 0) (18446744073709551615 - get_or c.args.other.now.words i 0) = search rules in ap (λ w. bit w j) e ∙ bit_without _ _ j (search rules) l)

@@ -1,5 +1,5 @@
 -- One more node is decided for both sides.
-use Rattle.std.proofs.Common.{◌≡◌, ℕ, ◌+◌, ◌≤◌, ◌&&◌, ltb, length, vec_items, vec_len, sym, ap, ◌∙◌, arith, rules}
+use Rattle.std.proofs.Common.{◌≡◌, ℕ, ◌≤◌, ◌&&◌, ltb, length, vec_items, vec_len, sym, ap, ◌∙◌, arith}
 use Rattle.games.specs.declared.side.Side.{Side}
 use Rattle.games.specs.declared.side.Side.TheVariants.{Left, Right}
 use Rattle.games.specs.Tests.{as_good}
@@ -12,7 +12,7 @@ use Rattle.sealing.specs.Steps.{Upto}
 use Rattle.sealing.specs.Views.{links, ranks}
 use Rattle.sealing.proofs.Reading.{same_length}
 use Rattle.sealing.proofs.Whole.{count_rows, within_links}
-use Rattle.sealing.proofs.Deciding.{partly_none, partly_known, partly_all, upto_more, upto_next}
+use Rattle.sealing.proofs.Deciding.{partly_none, partly_known, partly_all, upto_more}
 use Rattle.sealing.proofs.nodes.Nodes.compare.Goals as goal
 
 pub loop-h-init : goal.loop-h-init
@@ -26,14 +26,6 @@ loop-h-init c =
       λ k l. absurd (omega arith),
     )
 
-pub loop-h-smaller : goal.loop-h-smaller
-loop-h-smaller c =
-    let few : c.loop-h.h + 1 ≤ 384 = (let f = c.args.self.now.few in omega (arith, c.len.ensures, c.loop-h-test.true)) in
-    let a = c.next_outside-for_left.ensures.reach few in
-    let b = c.next_outside-for_right.ensures.reach few in
-    let m : c.loop-h.h + 1 ≤ c.min-h.result = search rules in
-    omega arith
-
 pub loop-h-preserved : goal.loop-h-preserved
 loop-h-preserved c =
     let t = c.args.self.now in
@@ -42,24 +34,24 @@ loop-h-preserved c =
     let inside = within_links t o c.requires in
     let l = c.decide.ensures o inside c.loop-h.invariant.0 (partly_known (links t) (ranks t) Right o h (has c.loop-h.right.decided) (has c.loop-h.right.worse) c.loop-h.invariant.2 c.loop-h.invariant.3) in
     let still : Upto h (has c.decide.new.known.decided) = λ k u. l.still k (c.loop-h.invariant.1 k u) in
-    let r = c.decide-in-loop-h.ensures o inside c.loop-h.invariant.2 (partly_known (links t) (ranks t) Left o h (has c.decide.new.known.decided) (has c.decide.new.known.worse) l.known still) in
-    let low_left : c.min-h.result ≤ c.next_outside-for_left.result = search rules in
-    let low_right : c.min-h.result ≤ c.next_outside-for_right.result = search rules in (
+    let r = c.decide-in-loop-h.ensures o inside c.loop-h.invariant.2 (partly_known (links t) (ranks t) Left o h (has c.decide.new.known.decided) (has c.decide.new.known.worse) l.known still) in (
       l.known,
-      upto_next (has c.decide.new.known.decided) h c.next_outside-for_left.result c.min-h.result
-          (upto_more (links t) (ranks t) Left o h (has c.loop-h.left.decided) (has c.decide.new.known.decided) (has c.decide.new.known.worse) l c.loop-h.invariant.1) c.next_outside-for_left.ensures low_left,
+      upto_more (links t) (ranks t) Left o h (has c.loop-h.left.decided) (has c.decide.new.known.decided) (has c.decide.new.known.worse) l c.loop-h.invariant.1,
       r.known,
-      upto_next (has c.decide-in-loop-h.new.known.decided) h c.next_outside-for_right.result c.min-h.result
-          (upto_more (links t) (ranks t) Right o h (has c.loop-h.right.decided) (has c.decide-in-loop-h.new.known.decided) (has c.decide-in-loop-h.new.known.worse) r c.loop-h.invariant.3) c.next_outside-for_right.ensures low_right,
+      upto_more (links t) (ranks t) Right o h (has c.loop-h.right.decided) (has c.decide-in-loop-h.new.known.decided) (has c.decide-in-loop-h.new.known.worse) r c.loop-h.invariant.3,
     )
 
-pub returns : goal.returns
-returns c =
-    let t = c.args.self.now in
-    let o = by c.args.moves.now in
-    let n : length (links t) ≤ c.loop-h.h = (let e = count_rows t in omega (arith, c.loop-h-test.false)) in
-    let back : (s : Side) (k : ℕ) → (ltb k (length (links t)) && as_good s (game (links t) o) (node (links t) k)) ≡ (ltb k (vec_len t.rows) && as_good s (game (links t) o) (node (links t) k)) =
-    λ s k. ap (λ m. ltb k m && as_good s (game (links t) o) (node (links t) k)) (sym (count_rows t)) in
-    both (λ s. (k : ℕ) → by (let p : Pair = record { left = c.loop-h.left.worse; right = c.loop-h.right.worse } in p) s k ≡ (ltb k (vec_len t.rows) && as_good s (game (links t) o) (node (links t) k)))
-    (λ k. partly_all (links t) (ranks t) Left o (has c.loop-h.left.decided) (has c.loop-h.left.worse) c.loop-h.invariant.0 (λ i l. c.loop-h.invariant.1 i (omega arith)) k ∙ back Left k)
-    (λ k. partly_all (links t) (ranks t) Right o (has c.loop-h.right.decided) (has c.loop-h.right.worse) c.loop-h.invariant.2 (λ i l. c.loop-h.invariant.3 i (omega arith)) k ∙ back Right k)
+pub invariant_of-result : goal.invariant_of-result
+invariant_of-result c =
+    record {
+      within = c.requires;
+      known = (
+          let t = c.args.self.now in
+          let o = by c.args.moves.now in
+          let n : length (links t) ≤ c.loop-h.h = (let e = count_rows t in omega (arith, c.loop-h-test.false)) in
+          let back : (s : Side) (k : ℕ) → (ltb k (length (links t)) && as_good s (game (links t) o) (node (links t) k)) ≡ (ltb k (vec_len t.rows) && as_good s (game (links t) o) (node (links t) k)) =
+          λ s k. ap (λ m. ltb k m && as_good s (game (links t) o) (node (links t) k)) (sym (count_rows t)) in
+          both (λ s. (k : ℕ) → by (let p : Pair = record { left = c.loop-h.left.worse; right = c.loop-h.right.worse } in p) s k ≡ (ltb k (vec_len t.rows) && as_good s (game (links t) o) (node (links t) k)))
+          (λ k. partly_all (links t) (ranks t) Left o (has c.loop-h.left.decided) (has c.loop-h.left.worse) c.loop-h.invariant.0 (λ i l. c.loop-h.invariant.1 i (omega arith)) k ∙ back Left k)
+          (λ k. partly_all (links t) (ranks t) Right o (has c.loop-h.right.decided) (has c.loop-h.right.worse) c.loop-h.invariant.2 (λ i l. c.loop-h.invariant.3 i (omega arith)) k ∙ back Right k));
+    }

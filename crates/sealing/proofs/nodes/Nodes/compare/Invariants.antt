@@ -1,5 +1,4 @@
 -- What the loop keeps: the nodes below h are decided for both sides.
-use Rattle.std.proofs.Common.{◌-◌}
 use Rattle.games.specs.declared.side.Side.TheVariants.{Left, Right}
 use Rattle.nodesets.specs.Pairs.{by}
 use Rattle.nodesets.specs.Sets.{has}
@@ -11,6 +10,3 @@ abbrev pub invariant-loop-h : goal.invariant-loop-h
 invariant-loop-h l =
     Partly (links l.self) (ranks l.self) Left (by l.moves) (has l.left.decided) (has l.left.worse) × Upto l.h (has l.left.decided)
     × Partly (links l.self) (ranks l.self) Right (by l.moves) (has l.right.decided) (has l.right.worse) × Upto l.h (has l.right.decided)
-
-abbrev pub decreases-loop-h : goal.decreases-loop-h
-decreases-loop-h l = 384 - l.h

@@ -9,9 +9,10 @@ use Rattle.sealing.specs.declared.row.Row.{Row}
 use Rattle.sealing.specs.Forms.{none}
 use Rattle.sealing.specs.Invariants.{AllCanonical, Apart, Lower, Ranked}
 use Rattle.sealing.specs.Rows.{options_of, worse_of}
+use Rattle.sealing.specs.Steps.{Compared}
 use Rattle.sealing.specs.Views.{links, ranks}
 use Rattle.sealing.proofs.Turns.{small_same}
-use Rattle.sealing.proofs.Whole.{count_rows, within_links, compared_links}
+use Rattle.sealing.proofs.Whole.{along, count_rows, within_links, compared_links}
 use Rattle.sealing.proofs.Growing.{lower_more, ranked_more, canonical_more, apart_more}
 use Rattle.sealing.proofs.nodes.Nodes.push.Goals as goal
 
@@ -34,24 +35,26 @@ module _ (c : goal.After-push_reserved) where
   same = length-map (vec_items c.rank_under.new.rows) (λ (r : Row). by r.worse) ∙ c.rank_under.ensures.ranks.len ∙ sym (length-map (vec_items c.args.self.now.rows) (λ (r : Row). by r.options))
 
   old : (i : ℕ) (s : Side) (k : ℕ) → i < length (links c.args.self.now)
-      → get_or (worse_of (vec_items c.rank_under.new.rows)) i none s k ≡ ((eqb k (length (links c.args.self.now)) && by c.args.worse.now (other s) i) || get_or (ranks c.args.self.now) i none s k)
+      → get_or (worse_of (vec_items c.rank_under.new.rows)) i none s k ≡ ((eqb k (length (links c.args.self.now)) && by c.compare.result.worse (other s) i) || get_or (ranks c.args.self.now) i none s k)
   old i s k h =
       c.rank_under.ensures.ranks.new i s k (subst (λ n. i < n) (sym (count_rows c.args.self.now)) h)
-      ∙ ap (λ (n : ℕ). ((eqb k n && ltb k 384) && by c.args.worse.now (other s) i) || get_or (ranks c.args.self.now) i none s k) (count_rows c.args.self.now)
-      ∙ ap (λ (b : Bool). (b && by c.args.worse.now (other s) i) || get_or (ranks c.args.self.now) i none s k) (small_same k (length (links c.args.self.now)) small)
+      ∙ ap (λ (n : ℕ). ((eqb k n && ltb k 384) && by c.compare.result.worse (other s) i) || get_or (ranks c.args.self.now) i none s k) (count_rows c.args.self.now)
+      ∙ ap (λ (b : Bool). (b && by c.compare.result.worse (other s) i) || get_or (ranks c.args.self.now) i none s k) (small_same k (length (links c.args.self.now)) small)
 
-  own : (s : Side) (k : ℕ) → by c.insert-2.new.self s k ≡ (eqb k (length (links c.args.self.now)) || by c.args.worse.now s k)
-  own Left k = c.insert-2.ensures.theirs k ∙ c.insert.ensures.own k ∙ ap (λ (n : ℕ). (eqb k n && ltb k 384) || by c.args.worse.now Left k) number_is ∙ ap (λ (b : Bool). b || by c.args.worse.now Left k) (small_same k (length (links c.args.self.now)) small)
+  own : (s : Side) (k : ℕ) → by c.insert-2.new.self s k ≡ (eqb k (length (links c.args.self.now)) || by c.compare.result.worse s k)
+  own Left k = c.insert-2.ensures.theirs k ∙ c.insert.ensures.own k ∙ ap (λ (n : ℕ). (eqb k n && ltb k 384) || by c.compare.result.worse Left k) number_is ∙ ap (λ (b : Bool). b || by c.compare.result.worse Left k) (small_same k (length (links c.args.self.now)) small)
   own Right k =
       c.insert-2.ensures.own k ∙ ap₂ (λ (n : ℕ) (b : Bool). (eqb k n && ltb k 384) || b) number_is (c.insert.ensures.theirs k)
-      ∙ ap (λ (b : Bool). b || by c.args.worse.now Right k) (small_same k (length (links c.args.self.now)) small)
+      ∙ ap (λ (b : Bool). b || by c.compare.result.worse Right k) (small_same k (length (links c.args.self.now)) small)
 
 pub invariant_of-self : goal.invariant_of-self
 invariant_of-self c =
     let t = c.args.self.now in
     let o = by c.args.form.now in
-    let w = by c.args.worse.now in
-    let ranked = ranked_more (links t) (ranks t) (worse_of (vec_items c.rank_under.new.rows)) o w (by c.insert-2.new.self) (same c) t.ranked (compared_links t o w c.requires.known) (old c) (own c) in
+    let w = by c.compare.result.worse in
+    let known =
+    along (λ n m. Compared (links n) (by m) (vec_len n.rows) w) c.compare.result.nodes.now t c.compare.result.moves c.args.form.now c.compare.ensures.nodes c.compare.ensures.moves c.compare.result.known in
+    let ranked = ranked_more (links t) (ranks t) (worse_of (vec_items c.rank_under.new.rows)) o w (by c.insert-2.new.self) (same c) t.ranked (compared_links t o w known) (old c) (own c) in
     let kept : vec_len c.rank_under.new.rows ≡ vec_len t.rows = (let e = c.rank_under.ensures.ranks.len in search rules) in
     record {
       few = (let a = c.push_reserved.ensures.len in let h = c.requires.room in omega arith);

@@ -13,11 +13,11 @@ loop-i-init c = (refl, ranking_none (vec_items c.args.rows.now) (by c.args.worse
 
 pub loop-i-preserved : goal.loop-i-preserved
 loop-i-preserved c =
-    let r = c.index.result.now in
+    let r = c.index_mut-row.result.now in
     let worse : Pair = record { left = c.insert_if.new.self; right = c.insert_if-in-loop-i.new.self } in
     let row : Row = record { options = r.options; worse = worse } in (
       c.loop-i.invariant.0,
-      ranking_more (vec_items c.args.rows.now) (vec_items c.loop-i.rows) (by c.args.worse.now) (vec_len c.args.rows.now) c.loop-i.i c.loop-i.invariant.1 (search rules) r row c.index.ensures refl
+      ranking_more (vec_items c.args.rows.now) (vec_items c.loop-i.rows) (by c.args.worse.now) (vec_len c.args.rows.now) c.loop-i.i c.loop-i.invariant.1 (search rules) r row (search rules) refl
           (both_worse worse r.worse (by c.args.worse.now) (vec_len c.args.rows.now) c.loop-i.i
           (λ k. c.insert_if.ensures k ∙ ap₂ (λ (n : ℕ) (b : Bool). ((eqb k n && ltb k 384) && b) || by r.worse Left k) c.len-number.ensures c.contains.ensures)
           (λ k. c.insert_if-in-loop-i.ensures k ∙ ap₂ (λ (n : ℕ) (b : Bool). ((eqb k n && ltb k 384) && b) || by r.worse Right k) c.len-number.ensures c.contains-in-loop-i.ensures)),

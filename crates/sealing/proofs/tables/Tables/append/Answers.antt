@@ -12,9 +12,6 @@ use Rattle.sealing.proofs.Kept.{rises_then}
 use Rattle.sealing.proofs.Sealing.{listing_of, count_is, form_is, one_more, room, listing_after, rows_after}
 use Rattle.sealing.proofs.tables.Tables.append.Goals as goal
 
-pub compare-worse-requires : goal.compare-worse-requires
-compare-worse-requires c = subst (λ n. Within n (by c.args.form.now)) (sym (count_is c.args.self.now)) c.requires.within
-
 pub push-requires : goal.push-requires
 push-requires c =
     let t = c.args.self.now in
@@ -22,7 +19,6 @@ push-requires c =
     record {
       room = let e = count_is t in let h = c.requires.room in omega arith;
       within = subst (λ n. Within n o) (sym (count_is t)) c.requires.within;
-      known = c.compare-worse.ensures;
       canonical = subst (λ g. Canonical g) (sym (form_is t o c.requires.within)) c.requires.canonical;
       fresh = λ k h e. c.requires.fresh k (subst (λ n. k < n) (count_is t) h) (subst (λ g. g ≈ node (links t.nodes) k) (form_is t o c.requires.within) e);
     }

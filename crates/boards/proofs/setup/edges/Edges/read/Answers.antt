@@ -1,17 +1,11 @@
--- Each turn takes one byte more.
-use Rattle.std.proofs.Common.{Some, sym, ◌∙◌, arith}
-use Rattle.boards.specs.EdgesRead.{no_edges, edge_step}
-use Rattle.boards.proofs.Running.{run_more, run_stops, run_ends}
+-- The fold takes one step for each byte.
+use Rattle.std.proofs.Common.{Some, ap, ◌∙◌, rules}
+use Rattle.boards.specs.Stepping.{run}
+use Rattle.boards.specs.EdgesRead.{edge_step}
+use Rattle.boards.proofs.Running.{run_folded}
 use Rattle.boards.proofs.setup.edges.Edges.read.Goals as goal
 
-pub returns-in_err-edges : goal.returns-in_err-edges
-returns-in_err-edges c =
-    c.from_residual.ensures
-    ∙ sym (run_stops edge_step (Some no_edges) c.loop-byte.edges c.args.items.now c.loop-byte.byte-index c.loop-byte.invariant (omega arith) (sym c.in_err-edges.was ∙ c.step.ensures))
-
-pub loop-byte-preserved : goal.loop-byte-preserved
-loop-byte-preserved c =
-    run_more edge_step (Some no_edges) c.loop-byte.edges c.args.items.now c.loop-byte.byte-index c.loop-byte.invariant c.in_ok-edges.edges (omega arith) (sym c.in_ok-edges.was ∙ c.step.ensures)
-
 pub returns : goal.returns
-returns c = sym (run_ends edge_step (Some no_edges) c.loop-byte.edges c.args.items.now c.loop-byte.byte-index c.loop-byte.invariant (omega arith))
+returns c =
+    run_folded edge_step _ _ _ _ _ _ _ c.iter.ensures.rest c.try_fold.ensures.ran (λ s x r f k. search rules)
+    ∙ ap (λ s. run edge_step (Some s) c.args.items.now) c.none.ensures

@@ -1,0 +1,30 @@
+use Rattle.std.proofs.Common.{[], drop, refl, ap, ◌∙◌}
+use Rattle.std.proofs.lemmas.List.{take_rest}
+use Rattle.std.proofs.lemmas.Result.{err_from_is_err_and}
+use Rattle.lines.proofs.Passing.{failed_early, failed_wrong, word_failed, word_passed}
+use Rattle.lines.proofs.reader.Reader.keyword.Goals as goal
+
+pub returns-in_err-peek : goal.returns-in_err-peek
+returns-in_err-peek g c =
+    let p = err_from_is_err_and c.from_residual.result c.from_residual.ensures.1 in
+    let h = c.in_err-peek.ensures in
+    rw (p.1, p.2) (failed_early _ _ g.K.Keyword.symbol [] _ refl h.0 h.1)
+
+pub returns-in_default : goal.returns-in_default
+returns-in_default g c =
+    let h = c.in_ok-peek.ensures in
+    failed_wrong _ _ c.in_ok-peek.field-0 h.0 h.1 g.K.Keyword.symbol [] refl c.in_default.ensures
+
+pub returns-in_err-spell : goal.returns-in_err-spell
+returns-in_err-spell g c =
+    let p = err_from_is_err_and c.from_residual-in_err-spell.result c.from_residual-in_err-spell.ensures.1 in
+    let h = c.in_ok-peek.ensures in
+    let keyword = c.in-Some.keyword in
+    rw (p.1, p.2) (word_failed _ _ c.in_ok-peek.field-0 h.0 h.1 refl refl g.K.Keyword.symbol (g.K.Keyword.spelt keyword) _ (g.K.Keyword.rest keyword) c.in-Some.ensures (g.met.K.Keyword.leads keyword) (take_rest _ 1 ∙ ap (drop 1) c.word.ensures) c.in_err-spell.ensures)
+
+pub returns : goal.returns
+returns g c =
+    let h = c.in_ok-peek.ensures in
+    let q = c.in_ok-spell.ensures in
+    let keyword = c.in-Some.keyword in
+    word_passed _ _ c.in_ok-peek.field-0 h.0 h.1 refl refl g.K.Keyword.symbol (g.K.Keyword.spelt keyword) _ (g.K.Keyword.rest keyword) c.in-Some.ensures (g.met.K.Keyword.leads keyword) (take_rest _ 1 ∙ ap (drop 1) c.word.ensures) q.1 q.2

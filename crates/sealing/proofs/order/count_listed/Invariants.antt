@@ -1,7 +1,0 @@
--- What the loop keeps.
-use Rattle.std.proofs.Common.{◌≡◌, ◌≤◌, length, take, filter}
-use Rattle.nodesets.specs.Sets.{has}
-use Rattle.sealing.proofs.order.count_listed.Given as goal
-
-abbrev pub invariant-loop-i : goal.invariant-loop-i
-invariant-loop-i l = (l.n ≡ length (filter (has l.set) (take l.i l.listing))) × (l.n ≤ l.i)

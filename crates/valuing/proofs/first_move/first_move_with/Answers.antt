@@ -1,0 +1,78 @@
+-- Each turn values one more successor, and keeps it if it is the first that wins.
+use Rattle.std.proofs.Common.{◌≡◌, [], Err, sym, refl, ◌∙◌, subst, rules}
+use Rattle.std.specs.Iterator.Adapters.{enumerate_source, enumerate_count}
+use Rattle.rulesets.specs.Remaining.{moves_left}
+use Rattle.rulesets.proofs.Positions.{left_none, left_some}
+use Rattle.calls.specs.Positions.{FirstMoves}
+use Rattle.valuing.specs.Answers.{answer_at}
+use Rattle.valuing.specs.Moved.{Earliest}
+use Rattle.valuing.specs.Sure.{Sure}
+use Rattle.valuing.proofs.Noted.{sure_empty}
+use Rattle.valuing.proofs.Earliest.{broke, no_earliest, one_tried, tried, tried_earliest, tries}
+use Rattle.valuing.proofs.first_move.first_move_with.Goals as goal
+
+pub returns-then-not-is_legal : goal.returns-then-not-is_legal
+returns-then-not-is_legal g c = record { moved = record { entries = []; holds = FirstMoves.illegal (search rules) }; earliest = tt; room = refl }
+
+pub loop-index-init : goal.loop-index-init
+loop-index-init g c =
+    let R = g.R.Ruleset.rules c.args.board.now in
+    let l = g.met.R.Ruleset.lawful c.args.board.now in
+    let d = c.args.dictionary.now in
+    let it = c.into_iter-index-iterator.result in
+    let first : enumerate_count it ≡ 0 = search rules in
+    let all : moves_left g.R.Ruleset.rules (enumerate_source it) ≡ R.moves c.args.side c.args.code = search rules in
+    rw (first, all) (record {
+      left = refl;
+      trying = tries R l c.args.side (R.moves c.args.side c.args.code) d.room d.rows (Sure R d.rows (g.M.Notes.holds c.forget.new.self)) (sure_empty R _ _ c.forget.ensures);
+    })
+
+pub returns-in_err-number : goal.returns-in_err-number
+returns-in_err-number g c =
+    let R = g.R.Ruleset.rules c.args.board.now in
+    let l = g.met.R.Ruleset.lawful c.args.board.now in
+    let d₀ = c.args.dictionary.now in
+    let d = c.loop-index.dictionary in
+    let i = enumerate_count c.loop-index.index-iterator in
+    let at = (left_some (R.moves c.args.side c.args.code) i c.in-Some.next _ (sym c.loop-index.invariant.left ∙ c.in-Some.ensures.steps.0)).0 in
+    let e : c.from_residual.result ≡ Err c.in_err-number.field-0.0 = search rules in
+    record {
+      moved = broke R l c.args.side c.args.code (search rules) i c.in-Some.next c.loop-index.winning d₀.room d.room d₀.rows d.rows c.enter.new.dictionary.rows
+          (Sure R d.rows (g.M.Notes.holds c.loop-index.memory)) c.from_residual.result c.in_err-number.field-0.0 e c.loop-index.invariant.trying at c.in_err-number.ensures.entered;
+      earliest = subst (λ y. Earliest R c.args.side c.args.code (answer_at y)) (sym e) (no_earliest R c.args.side c.args.code c.in_err-number.field-0.0);
+      room = c.in_err-number.ensures.room ∙ c.loop-index.invariant.trying.room;
+    }
+
+pub loop-index-preserved : goal.loop-index-preserved
+loop-index-preserved g c =
+    let R = g.R.Ruleset.rules c.args.board.now in
+    let l = g.met.R.Ruleset.lawful c.args.board.now in
+    let ms = R.moves c.args.side c.args.code in
+    let d₀ = c.args.dictionary.now in
+    let d = c.loop-index.dictionary in
+    let after = c.enter.new.dictionary in
+    let i = enumerate_count c.loop-index.index-iterator in
+    let (step, is, counts, fits) = c.in-Some.ensures.steps in
+    let (at, others) = left_some ms i c.in-Some.next _ (sym c.loop-index.invariant.left ∙ step) in
+    rw (counts, c.earlier-winning.ensures, is) (record {
+      left = others;
+      trying = one_tried R l c.args.side ms i c.in-Some.next c.in_ok-number.number c.loop-index.winning d₀.room d.room after.room d₀.rows d.rows after.rows
+          (Sure R d.rows (g.M.Notes.holds c.loop-index.memory)) (Sure R after.rows (g.M.Notes.holds c.enter.new.memory))
+          c.loop-index.invariant.trying at c.in_ok-number.ensures.room c.in_ok-number.ensures.sure c.in_ok-number.ensures.entered c.wins.result c.wins.ensures;
+    })
+
+pub returns : goal.returns
+returns g c =
+    let R = g.R.Ruleset.rules c.args.board.now in
+    let l = g.met.R.Ruleset.lawful c.args.board.now in
+    let d₀ = c.args.dictionary.now in
+    let d = c.loop-index.dictionary in
+    let i = enumerate_count c.loop-index.index-iterator in
+    let all = left_none (R.moves c.args.side c.args.code) i (sym c.loop-index.invariant.left ∙ c.in-None.ensures.steps.0.0) in
+    record {
+      moved = tried R l c.args.side c.args.code (search rules) i c.loop-index.winning d₀.room d.room d₀.rows d.rows
+          (Sure R d.rows (g.M.Notes.holds c.loop-index.memory)) all c.loop-index.invariant.trying;
+      earliest = tried_earliest R l c.args.side c.args.code i c.loop-index.winning d₀.room d.room d₀.rows d.rows
+          (Sure R d.rows (g.M.Notes.holds c.loop-index.memory)) c.loop-index.invariant.trying;
+      room = c.loop-index.invariant.trying.room;
+    }

@@ -1,0 +1,16 @@
+-- A legal code is entered, with nothing remembered yet.
+use Rattle.std.proofs.Common.{[], rules}
+use Rattle.calls.specs.Positions.{Values}
+use Rattle.valuing.specs.Sure.{Sure}
+use Rattle.valuing.proofs.Noted.{sure_empty}
+use Rattle.valuing.proofs.value.value_with.Goals as goal
+
+pub returns-then-not-is_legal-clause-valued : goal.returns-then-not-is_legal-clause-valued
+returns-then-not-is_legal-clause-valued g c = record { entries = []; holds = Values.illegal (search rules) }
+
+pub returns-clause-valued : goal.returns-clause-valued
+returns-clause-valued g c =
+    let R = g.R.Ruleset.rules c.args.board.now in
+    let sure : Sure R c.args.dictionary.now.rows (g.M.Notes.holds c.forget.new.self) = sure_empty R _ _ c.forget.ensures in
+    let entered = c.enter.ensures.entered sure in
+    record { entries = entered.entries; holds = Values.legal (search rules) entered.holds }

@@ -1,0 +1,11 @@
+-- What valuing keeps from one position to the next.
+-- Assumes nothing.
+use Rattle.std.specs.Prelude.{ℕ, ◌<◌}
+use Rattle.rulesets.specs.Rules.{Rules, game}
+use Rattle.calls.specs.Memory.{Remembered}
+use Rattle.calls.specs.Rows.{Rows}
+
+-- what a memory holds of the ruleset's positions may be told again: each number is a node that equals the game of its code,
+-- and every part of that game equals some node; and no node has a number from 384 on
+abbrev pub Sure : Rules → Rows → (ℕ → ℕ → Type 0) → Type 0
+Sure R rows holds = (code n : ℕ) → holds code n → Remembered rows (game R code) n × (n < 384)
