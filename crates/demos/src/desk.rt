@@ -39,9 +39,12 @@ pub fn show_values<S: Shown, M: Recall + Drop>(
     memory: M,
     detail: Detail,
 ) -> anyhow::Result<()> {
+    let Ok(dictionary) = begin::<S>(rt.alloc(), ROWS) else {
+        return Ok(());
+    };
     println!(rt; "over {}", S::NAME)?;
     let mut desk = Desk {
-        dictionary: begin::<S>(rt.alloc(), ROWS)?,
+        dictionary,
         memory,
         detail,
     };

@@ -1,8 +1,6 @@
 // What is shown over each of the two stores.
-ghost use Rattle.std.specs.Prelude.{◌≡◌, [], IfOk};
 ghost use Rattle.stores.specs.Rows.{Made};
 
-use anyhow::anyhow;
 use dictionary::dictionary::Dictionary;
 use hashed_store::table::HashTable;
 use ordered_store::ordered::OrderedList;
@@ -47,11 +45,9 @@ pub fn over_both<D: Demo>(rt: &HostRuntime, demo: &D) -> anyhow::Result<()> {
 }
 
 // A dictionary without nodes, over a store with memory for so many rows.
-pub fn begin<S: Shown>(heap: Global, capacity: usize) -> anyhow::Result<Dictionary<S>>
-    ensures { IfOk result (λ d. (d.rows ≡ []) × (d.room ≡ capacity)) }
+pub fn begin<S: Shown>(heap: Global, capacity: usize) -> Result<Dictionary<S>, MakeFault>
+    ensures { Made (λ d. d.rows) (λ d. d.room) capacity result }
 {
-    let Ok(store) = S::make(heap, capacity) else {
-        return Err(anyhow!("no store of {capacity} rows is made"));
-    };
+    let store = S::make(heap, capacity)?;
     Ok(Dictionary::begin(heap, store)?)
 }

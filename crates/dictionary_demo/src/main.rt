@@ -12,8 +12,10 @@ struct Forms;
 
 impl Demo for Forms {
     fn over<S: Shown>(&self, rt: &HostRuntime) -> anyhow::Result<()> {
+        let Ok(mut dictionary) = begin::<S>(rt.alloc(), ROWS) else {
+            return Ok(());
+        };
         println!(rt; "over {} of {ROWS} rows", S::NAME)?;
-        let mut dictionary = begin::<S>(rt.alloc(), ROWS)?;
         for (name, left, right) in FORMS {
             let sealed = dictionary.seal(&pair(left, right));
             tell_sealed(rt, &dictionary, name, sealed)?;

