@@ -8,7 +8,7 @@ use hackenbush::picture::Picture;
 use rulesets::ruleset::Ruleset;
 use toads::strip::Strip;
 
-#[derive(Clone, Copy)]
+#[derive(Clone, Copy, Debug, PartialEq, Eq)]
 pub enum AnyBoard {
     Domineering(Board),
     Toads(Strip),

@@ -16,7 +16,7 @@ mod edges;
 mod rows;
 
 // A board and the code of the position on it.
-#[derive(Clone, Copy)]
+#[derive(Clone, Copy, Debug, PartialEq, Eq)]
 pub struct Setup {
     pub board: AnyBoard,
     pub code: u64,

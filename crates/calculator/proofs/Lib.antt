@@ -4,3 +4,7 @@ pub mod Subjects
 pub mod Parts
 pub mod Values
 pub mod Replies
+pub mod Answering
+pub mod One
+pub mod Called
+pub mod Laws

@@ -38,3 +38,7 @@ most_64 n h = numeral_most 20 n (omega arith) (omega arith)
 
 pub most_16 : (n : ℕ) → n < 2 ^ 16 → length (numeral n) ≤ 5
 most_16 n h = numeral_most 5 n (omega arith) (omega arith)
+
+-- how many digits a number has, told of an equal one
+pub digits_told : (r m n : ℕ) → r ≡ length (numeral m) → m ≡ n → r ≡ length (numeral n)
+digits_told r m n e same = e ∙ ap (λ k. length (numeral k)) same

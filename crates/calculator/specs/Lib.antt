@@ -4,3 +4,6 @@ pub mod Faults
 pub mod Laying
 pub mod Entering
 pub mod Written
+pub mod Sessions
+pub mod Lines
+pub mod Laws

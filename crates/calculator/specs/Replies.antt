@@ -1,8 +1,6 @@
 -- What the calculator writes for a line.
 -- Assumes nothing.
 use Rattle.std.specs.Prelude.{◌≡◌, ℕ, ◌<◌, ◌≤◌, false, cond, List, [], ◌∷◌, ◌++◌, length, Some, None, codes, Option, nat_le}
-use Rattle.games.specs.declared.outcome.Comparison.{Comparison}
-use Rattle.games.specs.declared.outcome.Comparison.TheVariants.{Less, Greater, Equal, Confused}
 use Rattle.games.specs.declared.outcome.Outcome.{Outcome}
 use Rattle.games.specs.declared.side.Side.{Side}
 use Rattle.games.specs.Outcomes.{compare, letter, outcome, sign}

@@ -2,6 +2,8 @@
 ghost use Rattle.std.specs.Prelude.{◌≡◌, ℕ, ◌+◌, ◌^◌, ◌<◌, ◌≤◌, ◌++◌, length, codes};
 ghost use Rattle.lines.specs.Questions.{DescribesBoard, DescribesSubject};
 ghost use Rattle.lines.specs.Syntax.{Board as Written, Subject as Named, plain, minus, spell_board, spell_subject, sum};
+ghost use Rattle.reading.specs.Faults.{read_place};
+ghost use Rattle.calculator.specs.declared.fault.CalculatorFault.TheVariants.{Text};
 ghost use Rattle.calculator.specs.Entering.{ReadAt, ValuedAt};
 ghost use Rattle.calculator.specs.Faults.{answer_of};
 ghost use Rattle.calculator.specs.Subjects.{EntersSubject};
@@ -11,11 +13,20 @@ use crate::fault::CalculatorFault;
 use crate::laying::{stand, stand_both};
 use boards::sum::add;
 use lines::question::{Board, Content, Part, Subject};
+use reading::fault::ReadFault;
 use reading::read::read;
 use rulesets::ruleset::Ruleset;
 use stores::store::Store;
 use sums::minus::Minus;
 use valuing::value::value_with;
+
+// A fault in a text that begins at this place of the line: it has its own place.
+fn within(start: usize, fault: ReadFault) -> CalculatorFault
+    ensures { start + read_place fault < 2 ^ 64 → result ≡ Text (start + read_place fault) fault }
+{
+    let place = start.saturating_add(fault.place());
+    CalculatorFault::Text { place, fault }
+}
 
 impl<S: Store> Calculator<S> {
     // Values a position that stands at a place of the line; what valuing refuses is refused there.
@@ -71,14 +82,9 @@ impl<S: Store> Calculator<S> {
         ensures entered { text.now.place + length text.now.bytes.now < 2 ^ 64 → ReadAt self.old.dictionary.room self.old.dictionary.rows text.now.place text.now.bytes.now (answer_of result) self.new.dictionary.rows }
         ensures room { self.new.dictionary.room ≡ self.old.dictionary.room }
     {
-        // not `map_err`: with no `?` behind it the check finds no proof of what it answers
-        match read(&mut self.dictionary, text.bytes) {
-            Ok(node) => Ok(node),
-            Err(fault) => {
-                let place = text.place.saturating_add(fault.place());
-                Err(CalculatorFault::Text { place, fault })
-            }
-        }
+        let start = text.place;
+        let node = read(&mut self.dictionary, text.bytes).map_err(|fault| within(start, fault))?;
+        Ok(node)
     }
 
     // What a line names, by what it is.

@@ -14,19 +14,14 @@ pub fn lay(board: &Board<'_>) -> Result<Setup, CalculatorFault>
     ensures { (place : ℕ) (b : Written) → DescribesBoard place board.now b → Laid place b result }
 {
     let items = board.items.bytes;
+    let place = board.place;
     let setup = match board.kind {
         Kind::Domineering => set_up_domineering(items),
         Kind::Toads => set_up_toads(items),
         Kind::Hackenbush => set_up_hackenbush(items),
-    };
-    // not `map_err`: with no `?` behind it the check finds no proof of what it answers
-    match setup {
-        Ok(setup) => Ok(setup),
-        Err(fault) => Err(CalculatorFault::Board {
-            place: board.place,
-            fault,
-        }),
     }
+    .map_err(|fault| CalculatorFault::Board { place, fault })?;
+    Ok(setup)
 }
 
 // Refuses a position that is not legal, at the board's place.

@@ -1,6 +1,8 @@
 // The calculator: a line in, a line out.
 #![tactic(auto)]
 
+mod answer;
+pub mod bounds;
 pub mod calculator;
 mod enter;
 pub mod fault;

@@ -7,10 +7,11 @@ ghost use Rattle.games.specs.Outcomes.{sign};
 ghost use Rattle.calculator.specs.Replies.{board_place, first_place, move_text, second_place, value_place};
 ghost use Rattle.calculator.specs.Written.{AtFront, Replied, WroteValue};
 
+use crate::bounds::LONGEST_ANSWER;
 use crate::calculator::Calculator;
 use crate::fault::CalculatorFault;
 use crate::laying::stand;
-use crate::writing::{LONGEST, digits, put_bytes, put_head, put_number};
+use crate::writing::{digits, put_bytes, put_head, put_number};
 use games::outcome::Comparison;
 use games::side::Side;
 use lines::question::{Board, Subject};
@@ -18,7 +19,7 @@ use stores::store::Store;
 use valuing::first_move::first_move_with;
 
 // Writes how two games compare.
-fn put_comparison(out: &mut [u8; LONGEST], comparison: Comparison) -> usize
+fn put_comparison(out: &mut [u8; LONGEST_ANSWER], comparison: Comparison) -> usize
     ensures behind { result ≡ length (sign comparison) }
     ensures written { AtFront out.old (sign comparison) out.new }
 {
@@ -26,7 +27,7 @@ fn put_comparison(out: &mut [u8; LONGEST], comparison: Comparison) -> usize
 }
 
 // Writes the index of a move, or that there is none.
-fn put_move(out: &mut [u8; LONGEST], index: Option<usize>) -> usize
+fn put_move(out: &mut [u8; LONGEST_ANSWER], index: Option<usize>) -> usize
     ensures behind { result ≡ length (move_text index) }
     ensures written { AtFront out.old (move_text index) out.new }
 {
@@ -39,12 +40,18 @@ fn put_move(out: &mut [u8; LONGEST], index: Option<usize>) -> usize
 impl<S: Store> Calculator<S> {
     // Writes a node's number, its outcome and its text. The text goes into what remains of the answer line behind the others,
     // and is printed first, so that nothing is written where it does not fit.
-    fn write_value(&self, node: u16, out: &mut [u8; LONGEST]) -> Result<usize, CalculatorFault>
+    fn write_value(
+        &self,
+        node: u16,
+        out: &mut [u8; LONGEST_ANSWER],
+    ) -> Result<usize, CalculatorFault>
         ensures { node < length self.now.dictionary.rows → WroteValue self.now.dictionary.rows node out.old out.new result }
     {
         let outcome = self.dictionary.outcome(node)?;
-        let start = digits(node as usize) + 3;
-        let length = self.dictionary.print(node, &mut out[start..LONGEST])?;
+        let start = digits(usize::from(node)) + 3;
+        let length = self
+            .dictionary
+            .print(node, &mut out[start..LONGEST_ANSWER])?;
         put_head(out, node, outcome);
         Ok(start + length)
     }
@@ -53,7 +60,7 @@ impl<S: Store> Calculator<S> {
     pub(crate) fn reply_value(
         &mut self,
         subject: &Subject<'_>,
-        out: &mut [u8; LONGEST],
+        out: &mut [u8; LONGEST_ANSWER],
     ) -> Result<usize, CalculatorFault>
         ensures replied { (s : Named) → DescribesSubject value_place subject.now s → value_place + length (spell_subject s) < 2 ^ 64 → Replied self.old.dictionary.room self.old.dictionary.rows (value s) out.old out.new self.new.dictionary.rows result }
         ensures room { self.new.dictionary.room ≡ self.old.dictionary.room }
@@ -67,7 +74,7 @@ impl<S: Store> Calculator<S> {
         &mut self,
         first: &Subject<'_>,
         second: &Subject<'_>,
-        out: &mut [u8; LONGEST],
+        out: &mut [u8; LONGEST_ANSWER],
     ) -> Result<usize, CalculatorFault>
         ensures replied { (s u : Named) → DescribesSubject first_place first.now s → DescribesSubject (second_place s) second.now u → first_place + length (spell_subject s) < 2 ^ 64 → second_place s + length (spell_subject u) < 2 ^ 64 → Replied self.old.dictionary.room self.old.dictionary.rows (comparison s u) out.old out.new self.new.dictionary.rows result }
         ensures room { self.new.dictionary.room ≡ self.old.dictionary.room }
@@ -83,7 +90,7 @@ impl<S: Store> Calculator<S> {
         &mut self,
         side: Side,
         board: &Board<'_>,
-        out: &mut [u8; LONGEST],
+        out: &mut [u8; LONGEST_ANSWER],
     ) -> Result<usize, CalculatorFault>
         ensures replied { (b : Written) → DescribesBoard (board_place side) board.now b → Replied self.old.dictionary.room self.old.dictionary.rows (first_move side b) out.old out.new self.new.dictionary.rows result }
         ensures room { self.new.dictionary.room ≡ self.old.dictionary.room }

@@ -5,11 +5,9 @@ ghost use Rattle.lines.specs.Syntax.{numeral};
 ghost use Rattle.calculator.specs.Faults.{number_of, place_of};
 ghost use Rattle.calculator.specs.Replies.{fault_text, head_text};
 
+use crate::bounds::LONGEST_ANSWER;
 use crate::fault::CalculatorFault;
 use games::outcome::Outcome;
-
-// The longest answer, in bytes.
-pub const LONGEST: usize = 4096;
 
 // Writes some bytes.
 pub fn put_bytes(out: &mut [u8], place: usize, text: &[u8]) -> usize
@@ -49,22 +47,23 @@ pub fn digits(number: usize) -> usize
 }
 
 // Writes a fault at the front of a buffer: its number and its place.
-pub fn put_fault(out: &mut [u8; LONGEST], fault: CalculatorFault) -> usize
+pub fn put_fault(out: &mut [u8; LONGEST_ANSWER], fault: CalculatorFault) -> usize
     ensures behind { result ≡ length (fault_text (number_of fault) (place_of fault)) }
+    ensures inside { result ≤ 4096 }
     ensures written { out.new ≡ over out.old 0 (fault_text (number_of fault) (place_of fault)) }
 {
     let word = put_bytes(out, 0, b"fault ");
-    let number = put_number(out, word, fault.number() as usize);
+    let number = put_number(out, word, usize::from(fault.number()));
     let space = put_bytes(out, number, b" ");
     put_number(out, space, fault.place())
 }
 
 // Writes the head of a value at the front of a buffer: the node's number and its outcome, a space after each.
-pub fn put_head(out: &mut [u8; LONGEST], node: u16, outcome: Outcome) -> usize
+pub fn put_head(out: &mut [u8; LONGEST_ANSWER], node: u16, outcome: Outcome) -> usize
     ensures behind { result ≡ length (head_text node outcome) }
     ensures written { out.new ≡ over out.old 0 (head_text node outcome) }
 {
-    let number = put_number(out, 0, node as usize);
+    let number = put_number(out, 0, usize::from(node));
     let letter = [b' ', outcome.letter() as u8, b' '];
     put_bytes(out, number, &letter)
 }

@@ -7,6 +7,7 @@ pub mod Inside
 pub mod Outcomes
 pub mod Turns
 pub mod Texts
+pub mod Nesting
 pub mod Members
 pub mod Written
 pub mod Ones

@@ -1,6 +1,6 @@
 -- The theorems on all lists of calls.
 -- Assumes nothing.
-use Rattle.std.proofs.Common.{◌≡◌, ℕ, List, sym, refl, ap, ◌∙◌}
+use Rattle.std.proofs.Common.{◌≡◌, ℕ, List, sym, refl, ap, ◌∙◌, subst}
 use Rattle.games.specs.Form.{Form}
 use Rattle.games.specs.Order.{◌≈◌}
 use Rattle.games.specs.Text.{bytes}
@@ -8,15 +8,17 @@ use Rattle.games.proofs.Order.{≈_refl, ≈_sym, ≈_trans}
 use Rattle.games.proofs.Play.{≈_by_play}
 use Rattle.games.proofs.Unique.{unique}
 use Rattle.games.proofs.Text.{bytes_injective}
-use Rattle.calls.specs.Rows.{Rows, node, ◌among◌}
+use Rattle.rulesets.specs.Rules.{Rules, game}
+use Rattle.calls.specs.Rows.{Rows, node, ◌among◌, first}
 use Rattle.calls.specs.Answers.{told}
 use Rattle.calls.specs.Sealing.{CanonicalFormOf}
-use Rattle.calls.specs.Entering.{Entry}
-use Rattle.calls.specs.Texts.{closings}
+use Rattle.calls.specs.Entering.{Entry, entry, Enters, accepted}
+use Rattle.calls.specs.Positions.{Values}
+use Rattle.calls.specs.Texts.{closings, Written}
 use Rattle.calls.specs.Runs.{Past, Reached}
 use Rattle.calls.specs.Reading.{Reads}
 use Rattle.calls.specs.Asking.{Prints}
-use Rattle.calls.specs.RunLaws.{RowsAreSound, NumbersTellGames, TextsTellGames, TextsAreCanonical, PrintedReadsBack, ValuedStays}
+use Rattle.calls.specs.RunLaws.{EntriesAreCanonical, RowsAreSound, ToldNumbersAreEntries, NumbersTellGames, TextsTellGames, TextsAreCanonical, PrintedReadsBack, ValuedStays}
 use Rattle.calls.specs.Laws.{Correct}
 use Rattle.calls.proofs.Again.{enters_again, reads_found, values_known, values_found}
 use Rattle.calls.proofs.Sealing.{≡_≈, extends_known}
@@ -43,7 +45,7 @@ numbers_tell_games c p e f r m n =
 prints_text : {rows : Rows} {n room l : ℕ} {t : List ℕ} → Prints rows n room (told l) t → t ≡ bytes (node rows n)
 prints_text (Prints.written i f g) = refl
 
-entry_canonical : {c : ℕ} {p : Past} {e : Entry} → Reached c p → e among p.entries → CanonicalFormOf e.game (node p.rows e.number)
+pub entry_canonical : {c : ℕ} {p : Past} {e : Entry} → Reached c p → e among p.entries → CanonicalFormOf e.game (node p.rows e.number)
 entry_canonical {e = e} r m = let x = entry_node r m in record { is_canonical = (reached_kept r).sound.canonical e.number x.inside; same_value = x.equals }
 
 one_canonical : {g h a b : Form} → CanonicalFormOf g a → CanonicalFormOf h b → g ≈ h → a ≡ b
@@ -75,3 +77,19 @@ valued_stays c p q R l r code n b es v cs a d fs w =
     let ext = calls_extends kept cs in
     let here = extends_known ext (record { at = n; inside = i; equals = e }) in
     values_found n (calls_kept kept cs).sound x (λ y m. extends_known ext (k y m)) here.inside here.equals w
+
+pub entries_are_canonical : EntriesAreCanonical
+entries_are_canonical c p e r m = entry_canonical r m
+
+entered_first : {c n : ℕ} {rows after : Rows} {g : Form} {ps : List ℕ} {es : List Entry} → Enters c rows g ps (told n) after es → entry n g among es
+entered_first (accepted t) = first
+
+value_enters : {R : Rules} {c code n : ℕ} {rows after : Rows} {es : List Entry} → Values R c rows code (told n) after es → entry n (game R code) among es
+value_enters (Values.legal l t) = entered_first t
+
+read_enters : {c n : ℕ} {rows after : Rows} {t : List ℕ} {g : Form} {es : List Entry} → Written t g → Reads c rows t (told n) after es → entry n g among es
+read_enters {c} {n} {rows} {after} {t} {g} {es} w (Reads.well h v x) =
+    let same : h ≡ g = bytes_injective h g (v.by_form ∙ sym w.by_form) in subst (λ z. entry n z among es) same (entered_first x)
+
+pub told_numbers_are_entries : ToldNumbersAreEntries
+told_numbers_are_entries = record { value = λ R c rows after code n es v. value_enters v; read = λ c rows after t g n es w r. read_enters w r; seal = λ p i slips n after. first }

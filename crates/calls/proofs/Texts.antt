@@ -187,7 +187,7 @@ at_end ms a s q e = go q e
     go (done g) d = inl (g, record { by_form = ap (map byte) (read_done ms g d); shallow = s })
     go wrong d = early (ap result d)
 
-is_mark : (b : ℕ) → ((m : Mark) × (byte m ≡ b)) ⊎ ((m : Mark) → ¬ (byte m ≡ b))
+pub is_mark : (b : ℕ) → ((m : Mark) × (byte m ≡ b)) ⊎ ((m : Mark) → ¬ (byte m ≡ b))
 is_mark b = go (ℕ_discrete 123 b) (ℕ_discrete 124 b) (ℕ_discrete 125 b) (ℕ_discrete 44 b)
   where
     go : Dec (123 ≡ b) → Dec (124 ≡ b) → Dec (125 ≡ b) → Dec (44 ≡ b) → ((m : Mark) × (byte m ≡ b)) ⊎ ((m : Mark) → ¬ (byte m ≡ b))

@@ -4,6 +4,8 @@ pub mod Sealing
 pub mod Entering
 pub mod Positions
 pub mod Texts
+pub mod TextSpots
+pub mod Nests
 pub mod Faults
 pub mod Reading
 pub mod Asking

@@ -4,17 +4,17 @@ use Rattle.std.specs.Prelude.{◌≡◌, ℕ, ◌↔◌, List}
 use Rattle.games.specs.Form.{Form}
 use Rattle.games.specs.Play.{NoStarterWins}
 use Rattle.games.specs.Text.{bytes}
-use Rattle.rulesets.specs.Rules.{Rules, Lawful}
-use Rattle.calls.specs.Rows.{Rows, ◌among◌}
+use Rattle.rulesets.specs.Rules.{Rules, Lawful, game}
+use Rattle.calls.specs.Rows.{Rows, node, ◌among◌}
 use Rattle.calls.specs.Answers.{Answer, told}
 use Rattle.calls.specs.Sealing.{CanonicalFormOf}
-use Rattle.calls.specs.Entering.{Entry}
+use Rattle.calls.specs.Entering.{Entry, entry}
 use Rattle.calls.specs.Positions.{Values}
-use Rattle.calls.specs.Texts.{Shallow}
+use Rattle.calls.specs.Texts.{Shallow, Written}
 use Rattle.calls.specs.Reading.{Reads}
 use Rattle.calls.specs.Asking.{Prints}
 use Rattle.calls.specs.Sound.{Sound}
-use Rattle.calls.specs.Runs.{Past, grown, Printed, Calls, Reached}
+use Rattle.calls.specs.Runs.{Past, draft_game, grown, sealed, Printed, Calls, Reached}
 
 -- Each row is canonical, names lower numbers only, and equals no other in value
 abbrev pub RowsAreSound : Type 0
@@ -35,6 +35,16 @@ TextsTellGames = (c d : ℕ) (p q : Past) (e f : Entry) → Reached c p → Reac
 abbrev pub TextsAreCanonical : Type 0
 TextsAreCanonical = (c : ℕ) (p : Past) (e : Entry) → Reached c p → e among p.entries
     → (room m : ℕ) (t : List ℕ) → Prints p.rows e.number room (told m) t → (h : Form) → CanonicalFormOf e.game h → t ≡ bytes h
+
+-- The row of an entry's number is the canonical form of its game
+abbrev pub EntriesAreCanonical : Type 0
+EntriesAreCanonical = (c : ℕ) (p : Past) (e : Entry) → Reached c p → e among p.entries → CanonicalFormOf e.game (node p.rows e.number)
+
+-- A call that tells a number leaves an entry with it: of the position's game, of the form as written, of the draft's game
+pub record ToldNumbersAreEntries : Type 0 where
+  pub value : (R : Rules) (c : ℕ) (rows after : Rows) (code n : ℕ) (es : List Entry) → Values R c rows code (told n) after es → entry n (game R code) among es
+  pub read : (c : ℕ) (rows after : Rows) (t : List ℕ) (g : Form) (n : ℕ) (es : List Entry) → Written t g → Reads c rows t (told n) after es → entry n g among es
+  pub seal : (p : Past) (i slips n : ℕ) (after : Rows) → entry n (draft_game p i) among (sealed p i slips (told n) after).entries
 
 -- Reading a printed text, nested at most 96 deep, tells the printed number and leaves the rows: it can be read so, and not otherwise
 abbrev pub PrintedReadsBack : Type 0

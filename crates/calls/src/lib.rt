@@ -1,7 +1,8 @@
-// What the calls on a dictionary mean: definitions, and the theorems on them. The only other code here is the type
-// that the crates above share, the fault of a text or of a line.
+// What the calls on a dictionary mean: definitions, and the theorems on them. The only other code here is what the
+// crates above share: the fault of a text or of a line, and where a reader stands in the text of a form.
 #![tactic(auto)]
 
 pub mod fault;
 pub mod laws;
+pub mod nest;
 pub mod runs;

@@ -1,5 +1,5 @@
 // The theorems on all lists of calls, each asked for by the contract of a function: these functions do nothing else.
-ghost use Rattle.calls.specs.RunLaws.{NumbersTellGames, PrintedReadsBack, RowsAreSound, TextsAreCanonical, TextsTellGames, ValuedStays};
+ghost use Rattle.calls.specs.RunLaws.{EntriesAreCanonical, NumbersTellGames, PrintedReadsBack, RowsAreSound, TextsAreCanonical, TextsTellGames, ToldNumbersAreEntries, ValuedStays};
 ghost use Rattle.calls.specs.WorkedRun.{WorkedRun};
 
 pub fn numbers_tell_games()
@@ -17,6 +17,8 @@ pub fn printed_texts_read_back()
 
 pub fn rows_are_kept()
     ensures sound { RowsAreSound }
+    ensures canonical { EntriesAreCanonical }
+    ensures entered { ToldNumbersAreEntries }
     ensures valued { ValuedStays }
 {}
 

@@ -4,6 +4,7 @@ use crate::shown::{Shown, begin};
 use crate::told::{tell, text};
 use dictionary::dictionary::Dictionary;
 use domineering::board::Board;
+use games::bounds::MOST_NODES;
 use games::side::Side;
 use hackenbush::edge::Colour;
 use rulesets::ruleset::Ruleset;
@@ -15,11 +16,8 @@ use valuing::first_move::first_move_with;
 use valuing::recall::Recall;
 use valuing::value::value_with;
 
-// How many rows the store has memory for: as many as a store may have.
-const ROWS: usize = 384;
-
 // How much is told of a node.
-#[derive(Clone, Copy, PartialEq, Eq)]
+#[derive(Clone, Copy, Debug, PartialEq, Eq)]
 pub enum Detail {
     Outcome,
     OutcomeAndText,
@@ -39,7 +37,7 @@ pub fn show_values<S: Shown, M: Recall + Drop>(
     memory: M,
     detail: Detail,
 ) -> anyhow::Result<()> {
-    let Ok(dictionary) = begin::<S>(rt.alloc(), ROWS) else {
+    let Ok(dictionary) = begin::<S>(rt.alloc(), MOST_NODES) else {
         return Ok(());
     };
     println!(rt; "over {}", S::NAME)?;
@@ -105,10 +103,10 @@ impl<S: Store, M: Recall> Desk<S, M> {
 
     fn node(&self, rt: &HostRuntime, name: &str, node: u16) -> anyhow::Result<()> {
         tell(rt, &self.dictionary, name, node)?;
-        if self.detail == Detail::OutcomeAndText {
-            if let Ok(text) = text(&self.dictionary, node, &mut [0; 64]) {
-                println!(rt; "  {}", std::str::from_utf8(text)?)?;
-            }
+        if self.detail == Detail::OutcomeAndText
+            && let Ok(text) = text(&self.dictionary, node, &mut [0; 64])
+        {
+            println!(rt; "  {}", std::str::from_utf8(text)?)?;
         }
         Ok(())
     }

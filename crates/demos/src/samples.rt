@@ -13,7 +13,7 @@ use nodesets::nodeset::NodeSet;
 use nodesets::pair::Pair;
 
 // The forms {|}, {0|}, {|0}, {0|0}, {0,1|}, {*|*}, {0|1} and {0|*}, by the nodes of their options, and a form with an option that is no node.
-pub const FORMS: [(&'static str, &'static [u16], &'static [u16]); 9] = [
+pub const FORMS: [(&str, &[u16], &[u16]); 9] = [
     ("{|}", &[], &[]),
     ("{0|}", &[0], &[]),
     ("{|0}", &[], &[0]),
@@ -32,9 +32,9 @@ pub const PAIRS: [(u16, u16); 5] = [(1, 0), (2, 3), (0, 3), (4, 4), (0, 6)];
 fn set(nodes: &[u16]) -> NodeSet
     ensures { (k : ℕ) → has result k ≡ named nodes.now k }
 {
-    let mut set = NodeSet::empty();
+    let mut set = NodeSet::default();
     for node in nodes {
-        set.insert(*node as usize);
+        set.insert(usize::from(*node));
     }
     set
 }

@@ -42,8 +42,7 @@ pub fn compare<S: Store>(
     dictionary: &Dictionary<S>,
     pairs: &[(u16, u16)],
 ) -> anyhow::Result<()> {
-    for (a, b) in pairs {
-        let (a, b) = (*a, *b);
+    for &(a, b) in pairs {
         match dictionary.compare(a, b) {
             Ok(comparison) => println!(rt; "{a} {comparison} {b}")?,
             Err(fault) => println!(rt; "{a} and {b}: refused with {}", fault.number())?,

@@ -1,3 +1,4 @@
+pub mod Settled
 pub mod Told
 pub mod Tied
 pub mod Asking
@@ -5,7 +6,6 @@ pub mod Listed
 pub mod Sealed
 pub mod Appended
 pub mod Added
-pub mod Written
 pub mod Soundness
 pub mod Texts
 pub mod Overwrites

@@ -1,4 +1,5 @@
 pub mod Faults
 pub mod Holding
 pub mod Kept
+pub mod Settled
 pub mod Printing

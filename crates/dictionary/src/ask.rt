@@ -15,11 +15,13 @@ impl<S: Store> Dictionary<S> {
         ensures { Compares self.now.rows a b (answer_of result) }
     {
         let count = self.tables.count();
-        if a as usize >= count || b as usize >= count {
+        let a = usize::from(a);
+        let b = usize::from(b);
+        if a >= count || b >= count {
             return Err(DictionaryFault::Unknown);
         }
-        let above = self.tables.is_as_good(Side::Left, a as usize, b as usize);
-        let below = self.tables.is_as_good(Side::Right, a as usize, b as usize);
+        let above = self.tables.is_as_good(Side::Left, a, b);
+        let below = self.tables.is_as_good(Side::Right, a, b);
         Ok(Comparison::by_play(!below, !above))
     }
 

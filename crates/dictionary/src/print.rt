@@ -82,7 +82,7 @@ impl<S: Store> Dictionary<S> {
         ensures printed { Printed self.now.rows node out.old (print_answer result) out.new }
         ensures step { PrintSteps self.now.rows node (print_answer result) out.new }
     {
-        if node as usize >= self.store.count() {
+        if usize::from(node) >= self.store.count() {
             return Err(PrintFault::Unknown);
         }
         spend(&self.store, node, out.len().min(LONGEST)).ok_or(PrintFault::Long)?;

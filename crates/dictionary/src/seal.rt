@@ -21,16 +21,30 @@ use stores::store::Store;
 fn row(tables: &Tables, form: &Pair) -> Option<Row>
     ensures { option_map lists_of result ≡ row_for tables.now (by form.now) }
 {
-    let mut left = [0; 16];
-    let mut right = [0; 16];
-    let lefts = tables.list(&form.left, &mut left);
-    let rights = tables.list(&form.right, &mut right);
-    Row::new(left.get(0..lefts)?, right.get(0..rights)?)
+    let left = tables.options(&form.left)?;
+    let right = tables.options(&form.right)?;
+    Row::new(&left, &right)
 }
 
 impl<S: Store> Dictionary<S> {
     // The node that equals the form of the two sets; where there is none, the row of its canonical form is added.
+    // A pair that was sealed lately is not looked at again.
     pub fn seal(&mut self, moves: &Pair) -> Result<u16, DictionaryFault>
+        ensures seals { (l : Lists) → ListsOf (by moves.now) l → SealsNumbers self.old.room self.old.rows l (answer_of result) self.new.rows }
+        ensures room { self.new.room ≡ self.old.room }
+        ensures small { IfOk result (λ node. node < 384) }
+        ensures sound { Sound self.old.rows }
+    {
+        if let Some(node) = self.recent.recall(moves) {
+            return Ok(node);
+        }
+        let node = self.seal_anew(moves)?;
+        self.recent.note(moves, node);
+        Ok(node)
+    }
+
+    // The same, whatever is remembered.
+    fn seal_anew(&mut self, moves: &Pair) -> Result<u16, DictionaryFault>
         ensures seals { (l : Lists) → ListsOf (by moves.now) l → SealsNumbers self.old.room self.old.rows l (answer_of result) self.new.rows }
         ensures room { self.new.room ≡ self.old.room }
         ensures small { IfOk result (λ node. node < 384) }

@@ -73,11 +73,11 @@ fn print<S: Store>(
 
 // Heaps of nim, from each of which both sides move to every smaller heap. There is room for every text, but that of the heap of 9 is too long to be printed.
 fn heaps<S: Store>(rt: &HostRuntime, dictionary: &mut Dictionary<S>) -> anyhow::Result<()> {
-    let mut smaller = Pair::empty();
+    let mut smaller = Pair::default();
     for heap in 0..HEAPS {
         if let Ok(node) = dictionary.seal(&smaller) {
-            smaller.insert(Side::Left, node as usize);
-            smaller.insert(Side::Right, node as usize);
+            smaller.insert(Side::Left, usize::from(node));
+            smaller.insert(Side::Right, usize::from(node));
             match dictionary.print(node, &mut [0; LONG_TEXT]) {
                 Ok(length) => println!(rt; "heap of {heap}: a text of {length} bytes")?,
                 Err(fault) => println!(rt; "heap of {heap}: refused with {}", fault.number())?,

@@ -6,7 +6,10 @@ ghost use Rattle.domineering.specs.Domineering.{sized, goes_on};
 mod making;
 mod rules;
 
-#[derive(Clone, Copy)]
+// A board has at most this many cells.
+pub const MOST_CELLS: usize = 30;
+
+#[derive(Clone, Copy, Debug, PartialEq, Eq)]
 pub struct Board {
     rows: usize,
     columns: usize,

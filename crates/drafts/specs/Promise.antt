@@ -1,6 +1,6 @@
 -- What holds of all lists of calls, in one.
 -- Assumes nothing.
-use Rattle.calls.specs.RunLaws.{NumbersTellGames, TextsTellGames, TextsAreCanonical, PrintedReadsBack, RowsAreSound, ValuedStays}
+use Rattle.calls.specs.RunLaws.{EntriesAreCanonical, ToldNumbersAreEntries, NumbersTellGames, TextsTellGames, TextsAreCanonical, PrintedReadsBack, RowsAreSound, ValuedStays}
 use Rattle.calls.specs.WorkedRun.{WorkedRun}
 
 -- Whatever list of value, first move, read, open, put, seal, abandon and print calls, refused ones among them, takes a new dictionary to where it is,
@@ -18,6 +18,10 @@ pub record OneGameOneNumberOneText : Type 0 where
   pub read_back : PrintedReadsBack
   -- each row is canonical, names lower numbers only, and equals no other in value
   pub rows : RowsAreSound
+  -- the row of an entry's number is the canonical form of its game
+  pub forms : EntriesAreCanonical
+  -- a call that tells a number leaves an entry with it
+  pub entered : ToldNumbersAreEntries
   -- a position valued again has the same number, and no row is added
   pub valued : ValuedStays
   -- and none of this is empty: a list of calls is worked through

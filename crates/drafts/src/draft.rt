@@ -6,14 +6,12 @@ ghost use Rattle.drafts.specs.Steps.{AbandonSteps, OpenSteps, PutSteps};
 
 use crate::slip::Slip;
 use dictionary::fault::DictionaryFault;
+use games::bounds::MOST_NODES;
 use games::side::Side;
 use nodesets::pair::Pair;
 
-// The largest number that can be a node's.
-const LARGEST: u16 = 383;
-
 // Two sets of numbers. Whether they are nodes shows when the draft is sealed.
-#[derive(Drop)]
+#[derive(Default, Drop)]
 pub struct Draft {
     pub(crate) numbers: Pair,
 }
@@ -24,9 +22,14 @@ impl Draft {
         ensures empty { Holds result no_numbers }
         ensures some { DraftsHold }
     {
-        Draft {
-            numbers: Pair::empty(),
-        }
+        Draft::default()
+    }
+
+    // Takes back all numbers put.
+    fn clear(&mut self)
+        ensures { Holds self.new no_numbers }
+    {
+        *self = Draft::new();
     }
 
     // Empties the draft and hands out a slip.
@@ -35,7 +38,7 @@ impl Draft {
         ensures unspent { Unspent result }
         ensures step { OpenSteps self.new }
     {
-        *self = Draft::new();
+        self.clear();
         Slip::new()
     }
 
@@ -44,10 +47,11 @@ impl Draft {
         ensures puts { PutsInto self.old side number (answer_of result) self.new }
         ensures step { PutSteps self.old side number (answer_of result) self.new }
     {
-        if number > LARGEST {
+        let node = usize::from(number);
+        if node >= MOST_NODES {
             return Err(DictionaryFault::Unknown);
         }
-        self.numbers.insert(side, number as usize);
+        self.numbers.insert(side, node);
         Ok(())
     }
 
@@ -56,7 +60,7 @@ impl Draft {
         ensures empty { Holds self.new no_numbers }
         ensures step { AbandonSteps self.new }
     {
-        self.numbers = Pair::empty();
+        self.clear();
         slip.spend();
     }
 }

@@ -19,7 +19,7 @@ use valuing::value::value_with;
 const ROWS: usize = 4;
 
 // What is put on the Left and on the Right, by the numbers of nodes: 0 is 0, 1 is 1, 2 is 2 and 3 is *.
-const FORMS: [(&'static str, &'static [u16], &'static [u16]); 10] = [
+const FORMS: [(&str, &[u16], &[u16]); 10] = [
     ("{|}", &[], &[]),
     ("{0|}", &[0], &[]),
     ("{0,1|}", &[0, 1], &[]),

@@ -6,7 +6,7 @@ ghost use Rattle.hackenbush.specs.Hackenbush.{cuts, near_edge};
 use games::side::Side;
 
 // Vertices go from 0 to this.
-const LAST_VERTEX: u8 = 15;
+pub const LAST_VERTEX: u8 = 15;
 
 #[derive(Clone, Copy, Debug, Default, PartialEq, Eq)]
 pub enum Colour {

@@ -10,9 +10,12 @@ mod flood;
 mod making;
 pub mod rules;
 
-#[derive(Clone, Copy)]
+// A picture has at most this many edges.
+pub const MOST_EDGES: usize = 24;
+
+#[derive(Clone, Copy, Debug, PartialEq, Eq)]
 pub struct Picture {
-    edges: [Edge; 24],
+    edges: [Edge; MOST_EDGES],
     count: usize,
     // the edges that Left may cut, and those that Right may cut, as bits
     left: u64,

@@ -10,3 +10,4 @@ pub mod Passing
 pub mod Underway
 pub mod Nesting
 pub mod Wholes
+pub mod Telling

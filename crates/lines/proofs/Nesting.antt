@@ -1,42 +1,108 @@
--- The brackets outside, as symbols that are to come.
+-- Over the bytes of a text the machine of a line goes where the one of texts does.
 -- Assumes nothing.
-use Rattle.std.proofs.Common.{◌≡◌, ◌+◌, ◌≤◌, List, [], ◌∷◌, ◌++◌, length, refl, ap, ◌∙◌, arith, length-append}
-use Rattle.lines.specs.Machine.{depth}
-use Rattle.lines.specs.TextSpots.{outers, symbol, weight_of}
-use Rattle.lines.specs.WalksLemmas.{weight_is}
-use Rattle.lines.specs.declared.nest.TextSpot.{TextSpot}
-use Rattle.lines.specs.declared.nest.TextSpot.TheVariants.{Form, InLeft, AfterLeft, InRight, AfterRight}
-use Rattle.lines.proofs.Depth.{depth_++}
+use Rattle.std.proofs.Common.{◌≡◌, ℕ, false, eqb, List, [], ◌∷◌, map, Some, None, Ok, Err, Option, Result, sym, refl, ap, ◌∙◌, ap₂, inl, inr, arith}
+use mathlib.Core.Option.{none, some}
+use mathlib.Core.Option as Math
+use Rattle.std.proofs.lemmas.Bool.{ne_eqb}
+use Rattle.games.specs.Form.{Form as Game, form}
+use Rattle.games.specs.Text.{Mark, open_mark, bar, close_mark, comma, byte}
+use Rattle.games.specs.declared.side.Side.TheVariants.{Left, Right}
+use Rattle.games.proofs.Reader.{Bracket, in_left, in_right, State, wants, fresh, after, done, wrong, put, finish}
+use Rattle.games.proofs.Reader
+use Rattle.calls.specs.Nests.{Stands, Stepped, Refused, behind, outer_of, spot_of}
+use Rattle.calls.specs.declared.fault.TextFault.{TextFault}
+use Rattle.calls.specs.declared.fault.TextFault.TheVariants.{WrongByte, EarlyEnd, TooDeep}
+use Rattle.calls.specs.declared.nest.Nest.{Nest}
+use Rattle.calls.specs.declared.nest.TextSpot.{TextSpot}
+use Rattle.calls.specs.declared.nest.TextSpot.TheVariants.{Form, Start, After}
+use Rattle.calls.proofs.Texts.{is_mark}
+use Rattle.lines.specs.Machine.{Symbol, text, next}
+use Rattle.lines.specs.Nests.{symbol, stack}
+use Rattle.lines.specs.Walks.{Stepped as Walks, Refused as WalkRefused}
+use Rattle.lines.specs.WalksLemmas.{outer_depth}
 
--- one more bracket waits
-pub outers_push : (spots : List TextSpot) (spot : TextSpot) → outers (spots ++ spot ∷ []) ≡ symbol spot ∷ outers spots
-outers_push [] spot = refl
-outers_push (s ∷ spots) spot = ap (λ k. k ++ (symbol s ∷ [])) (outers_push spots spot)
+-- what is to come where the machine of texts stands; nothing where it is wrong
+abbrev at_place : Option TextSpot → List TextSpot → List Symbol
+at_place (Some spot) outer = symbol spot ∷ map symbol outer
+at_place None outer = []
 
-pub depth_push : (spots : List TextSpot) (spot : TextSpot) → depth (outers (spots ++ spot ∷ [])) ≡ weight_of spot + depth (outers spots)
-depth_push spots spot = let w = weight_is spot in ap depth (outers_push spots spot) ∙ omega arith
+abbrev to_come : State → Math.Option (List Symbol)
+to_come wrong = none
+to_come (wants bs) = some (at_place (spot_of (wants bs)) (outer_of (wants bs)))
+to_come (fresh b bs) = some (at_place (spot_of (fresh b bs)) (outer_of (fresh b bs)))
+to_come (after b bs) = some (at_place (spot_of (after b bs)) (outer_of (after b bs)))
+to_come (done g) = some []
 
-weight_most : (spot : TextSpot) → weight_of spot ≤ 1
-weight_most Form = omega arith
-weight_most InLeft = omega arith
-weight_most AfterLeft = omega arith
-weight_most InRight = omega arith
-weight_most AfterRight = omega arith
+-- a form ends
+ended : (g : Game) (bs : List Bracket) → some (map symbol (map behind bs)) ≡ to_come (finish g bs)
+ended g [] = refl
+ended g (in_left ls ∷ bs) = refl
+ended g (in_right ls rs ∷ bs) = refl
 
-depth_most : (spots : List TextSpot) → depth (outers spots) ≤ length spots
-depth_most [] = omega arith
-depth_most (s ∷ spots) =
-    let d = depth_++ (outers spots) (symbol s ∷ []) in
-    let w = weight_is s in
-    let m = weight_most s in
-    let n = depth_most spots in
-    omega arith
+-- a mark
+marked : (q : State) (spot : TextSpot) (m : Mark) → spot_of q ≡ Some spot → next (at_place (spot_of q) (outer_of q)) (byte m) ≡ to_come (Reader.next q m)
+marked (wants bs) spot open_mark e = refl
+marked (wants bs) spot bar e = refl
+marked (wants bs) spot close_mark e = refl
+marked (wants bs) spot comma e = refl
+marked (fresh (in_left ls) bs) spot open_mark e = refl
+marked (fresh (in_left ls) bs) spot bar e = refl
+marked (fresh (in_left ls) bs) spot close_mark e = refl
+marked (fresh (in_left ls) bs) spot comma e = refl
+marked (fresh (in_right ls rs) bs) spot open_mark e = refl
+marked (fresh (in_right ls rs) bs) spot bar e = refl
+marked (fresh (in_right ls rs) bs) spot close_mark e = ended (form ls rs) bs
+marked (fresh (in_right ls rs) bs) spot comma e = refl
+marked (after (in_left ls) bs) spot open_mark e = refl
+marked (after (in_left ls) bs) spot bar e = refl
+marked (after (in_left ls) bs) spot close_mark e = refl
+marked (after (in_left ls) bs) spot comma e = refl
+marked (after (in_right ls rs) bs) spot open_mark e = refl
+marked (after (in_right ls rs) bs) spot bar e = refl
+marked (after (in_right ls rs) bs) spot close_mark e = ended (form ls rs) bs
+marked (after (in_right ls rs) bs) spot comma e = refl
+marked (done g) spot m e = let z : ◌≡◌ {A = ℕ} 0 1 = cc in absurd (omega arith)
+marked wrong spot m e = let z : ◌≡◌ {A = ℕ} 0 1 = cc in absurd (omega arith)
 
--- the innermost one, of which an option ends
-pub released : (spots : List TextSpot) (spot : TextSpot) → depth (outers (spots ++ spot ∷ [])) ≡ length (spots ++ spot ∷ []) → (weight_of spot ≡ 1) × (depth (outers spots) ≡ length spots)
-released spots spot waits =
-    let d = depth_push spots spot in
-    let l = length-append spots (spot ∷ []) in
-    let m = weight_most spot in
-    let n = depth_most spots in
-    (omega arith, omega arith)
+-- any other byte
+no_rule : (b : ℕ) (k : List Symbol) → eqb b 123 ≡ false → eqb b 124 ≡ false → eqb b 125 ≡ false → eqb b 44 ≡ false → (spot : TextSpot) → next (symbol spot ∷ k) b ≡ none
+no_rule b k o r c s Form = simp o
+no_rule b k o r c s (Start Left) = simp (o, r)
+no_rule b k o r c s (Start Right) = simp (o, c)
+no_rule b k o r c s (After Left) = simp (r, s)
+no_rule b k o r c s (After Right) = simp (c, s)
+
+unmarked : (spot : TextSpot) (k : List Symbol) (b : ℕ) → ((m : Mark) → ¬ (byte m ≡ b)) → next (symbol spot ∷ k) b ≡ none
+unmarked spot k b n =
+    no_rule b k (ne_eqb b 123 (λ e. n open_mark (sym e))) (ne_eqb b 124 (λ e. n bar (sym e))) (ne_eqb b 125 (λ e. n close_mark (sym e))) (ne_eqb b 44 (λ e. n comma (sym e))) spot
+
+-- a place in a text
+placed : (q : State) (spot : TextSpot) → spot_of q ≡ Some spot → to_come q ≡ some (symbol spot ∷ map symbol (outer_of q))
+placed (wants bs) spot e = ap (λ o. some (at_place o (outer_of (wants bs)))) e
+placed (fresh b bs) spot e = ap (λ o. some (at_place o (outer_of (fresh b bs)))) e
+placed (after b bs) spot e = ap (λ o. some (at_place o (outer_of (after b bs)))) e
+placed (done g) spot e = let z : ◌≡◌ {A = ℕ} 0 1 = cc in absurd (omega arith)
+placed wrong spot e = let z : ◌≡◌ {A = ℕ} 0 1 = cc in absurd (omega arith)
+
+module _ (nest : Nest) (b place : ℕ) (q : State) (s : Stands nest q) where
+  here : stack nest ≡ at_place (spot_of q) (outer_of q)
+  here = ap₂ at_place (sym s.at_spot) s.outside
+
+  takes : (m : Mark) → byte m ≡ b → next (stack nest) b ≡ to_come (Reader.next q m)
+  takes m e = ap₂ next here (sym e) ∙ marked q nest.spot m s.at_spot
+
+  refused : (f : TextFault) → Refused q b place f → WalkRefused (stack nest) b place f
+  refused (WrongByte i) (e, w) = (e, elim (is_mark b) [ inl (m, h) ↦ takes m h ∙ ap to_come (w m h) | inr n ↦ unmarked nest.spot _ b n ])
+  refused (EarlyEnd i) w = w
+  refused (TooDeep i) (e, h, p, l) =
+      let q' = Reader.next q open_mark in
+      let d = outer_depth q' in
+      (e, (symbol (Start Left) ∷ map symbol (outer_of q'), takes open_mark h ∙ placed q' (Start Left) p, omega arith))
+
+  pub stepped : (r : Result (Option Nest) TextFault) → Stepped q b place r → Walks stack 125 (stack nest) b place r
+  stepped (Ok None) (e, g, d) = (takes close_mark e ∙ ap to_come d, sym e)
+  stepped (Ok (Some n)) (m, e, h) = takes m e ∙ (placed (Reader.next q m) n.spot h.at_spot ∙ ap (λ o. some (symbol n.spot ∷ map symbol o)) (sym h.outside))
+  stepped (Err f) h = refused f h
+
+pub begins : (nest : Nest) → Stands nest (wants []) → stack nest ≡ text ∷ []
+begins nest s = here nest 0 0 (wants []) s

@@ -3,7 +3,6 @@ pub mod Faults
 pub mod Machine
 pub mod Questions
 pub mod Spots
-pub mod TextSpots
 pub mod Nests
 pub mod Walks
 pub mod WalksLemmas

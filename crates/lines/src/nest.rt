@@ -1,30 +1,19 @@
-// Where a reader stands in the text of a form: in a list of its options or after one, and the brackets outside.
-ghost use Rattle.std.specs.Prelude.{◌≡◌, ◌+◌, ◌≤◌, length};
-ghost use Rattle.lines.specs.Machine.{depth};
-ghost use Rattle.lines.specs.TextSpots.{outers, weight_of};
+// The text of a form as a reader of a line walks along it.
+ghost use Rattle.lines.specs.Nests.{stack};
+ghost use Rattle.lines.specs.WalksLemmas.{nest_ongoing};
 
-use arrayvec::ArrayVec;
+use crate::walk::Walk;
+use calls::fault::TextFault;
+use calls::nest::Nest;
 
-mod steps;
+impl Walk for Nest {
+    ghost stack = { stack };
 
-// The most brackets that may be open.
-const MOST_OPEN: usize = 96;
+    ghost last = { 125 };
 
-#[derive(Clone, Copy, Default)]
-pub enum TextSpot {
-    #[default]
-    Form,
-    InLeft,
-    AfterLeft,
-    InRight,
-    AfterRight,
-}
+    ghost ongoing = { nest_ongoing };
 
-// The brackets outside wait for an option to end: where each goes on then, the innermost last.
-#[derive(Drop)]
-pub struct Nest {
-    spot: TextSpot,
-    outside: ArrayVec<TextSpot, MOST_OPEN>,
-    ghost waits: { depth (outers outside.items) ≡ length outside.items },
-    ghost few: { weight_of spot + length outside.items ≤ 96 },
+    fn step(self, byte: u8, place: usize) -> Result<Option<Nest>, TextFault> {
+        self.take(byte, place)
+    }
 }

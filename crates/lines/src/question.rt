@@ -2,13 +2,13 @@
 use games::side::Side;
 
 // Some bytes of the line, and the place where they begin.
-#[derive(Clone, Copy)]
+#[derive(Clone, Copy, Debug, PartialEq, Eq)]
 pub struct Part<'a> {
     pub place: usize,
     pub bytes: &'a [u8],
 }
 
-#[derive(Clone, Copy)]
+#[derive(Clone, Copy, Debug, PartialEq, Eq)]
 pub enum Kind {
     Domineering,
     Toads,
@@ -16,14 +16,14 @@ pub enum Kind {
 }
 
 // A board: the place of its opening bracket, and its items.
-#[derive(Clone, Copy)]
+#[derive(Clone, Copy, Debug, PartialEq, Eq)]
 pub struct Board<'a> {
     pub place: usize,
     pub kind: Kind,
     pub items: Part<'a>,
 }
 
-#[derive(Clone, Copy)]
+#[derive(Clone, Copy, Debug, PartialEq, Eq)]
 pub enum Content<'a> {
     Plain(Board<'a>),
     Minus(Board<'a>),
@@ -32,13 +32,13 @@ pub enum Content<'a> {
 }
 
 // What is valued or compared, and the place of its opening bracket.
-#[derive(Clone, Copy)]
+#[derive(Clone, Copy, Debug, PartialEq, Eq)]
 pub struct Subject<'a> {
     pub place: usize,
     pub content: Content<'a>,
 }
 
-#[derive(Clone, Copy)]
+#[derive(Clone, Copy, Debug, PartialEq, Eq)]
 pub enum Question<'a> {
     Value(Subject<'a>),
     Compare(Subject<'a>, Subject<'a>),

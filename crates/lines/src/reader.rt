@@ -13,7 +13,7 @@ mod asks;
 mod pieces;
 mod subjects;
 
-#[derive(Clone, Copy)]
+#[derive(Clone, Copy, Debug, PartialEq, Eq)]
 pub struct Reader<'a> {
     line: &'a [u8],
     at: usize,

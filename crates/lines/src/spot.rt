@@ -7,7 +7,7 @@ use crate::walk::Walk;
 use calls::fault::TextFault;
 
 // In an edge; behind a vertex 0 there is no further digit.
-#[derive(Clone, Copy)]
+#[derive(Clone, Copy, Debug, PartialEq, Eq)]
 pub enum EdgeSpot {
     From,
     Dash,
@@ -18,7 +18,7 @@ pub enum EdgeSpot {
     MoreEdges,
 }
 
-#[derive(Clone, Copy)]
+#[derive(Clone, Copy, Debug, PartialEq, Eq)]
 pub enum Spot {
     Square,
     MoreSquares,

@@ -55,7 +55,7 @@ impl Keyword for Side {
 }
 
 // What a line asks for.
-#[derive(Clone, Copy)]
+#[derive(Clone, Copy, Debug, PartialEq, Eq)]
 pub enum Ask {
     Value,
     Compare,
@@ -90,7 +90,7 @@ impl Keyword for Ask {
 }
 
 // What a subject is.
-#[derive(Clone, Copy)]
+#[derive(Clone, Copy, Debug, PartialEq, Eq)]
 pub enum Heading {
     Minus,
     Sum,

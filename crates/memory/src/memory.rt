@@ -1,5 +1,5 @@
 // A memory of numbers by codes.
-ghost use Rattle.std.specs.Prelude.{ℕ, ◌≤◌};
+ghost use Rattle.std.specs.Prelude.{ℕ};
 ghost use Rattle.memory.specs.Memories.{Holds, HoldsLess, HoldsOf};
 ghost use Rattle.memory.specs.Holds.{More, Recalls};
 
@@ -14,16 +14,17 @@ const FIRST: usize = 256;
 
 const MOST: usize = 16_777_216;
 
-// A hashed table of so many places gives way to one with a place for every code, where the codes are below the limit: 4 bytes each, so 64 MiB.
+// A hashed table of so many places gives way to one with a place for every code, where there are at most so many codes: 4 bytes each, so 64 MiB.
 const SWITCH: usize = 65_536;
 
-const LIMIT: u64 = 16_777_216;
+const MOST_CODES: usize = 16_777_216;
 
 // Numbers by codes. It takes more memory as it needs it; where there is none, it forgets.
 #[derive(Drop)]
 pub struct Memory {
     heap: Global,
-    limit: u64,
+    // how many codes there are, where a table may have a place for each
+    codes: Option<usize>,
     table: Table,
 }
 
@@ -34,7 +35,7 @@ impl Memory {
     {
         Memory {
             heap,
-            limit: u64::MAX,
+            codes: None,
             table: Table::Hashed(Slots::new(heap)),
         }
     }
@@ -43,7 +44,9 @@ impl Memory {
     pub fn forget(&mut self, limit: u64)
         ensures { (code n : ℕ) → Holds self.new code n → ⊥ }
     {
-        self.limit = limit;
+        self.codes = usize::try_from(limit)
+            .ok()
+            .filter(|codes| *codes <= MOST_CODES);
         self.table = Table::Hashed(Slots::new(self.heap));
     }
 
@@ -81,19 +84,18 @@ impl Memory {
     fn larger(&self, slots: &Slots) -> Option<Table>
         ensures { HoldsOf slots.now result }
     {
-        if slots.places() >= SWITCH && self.limit <= LIMIT {
-            self.indexed(slots).or_else(|| self.wider(slots))
-        } else {
-            self.wider(slots)
-        }
+        self.indexed(slots).or_else(|| self.wider(slots))
     }
 
-    // A table with a place for every code below the limit, if there is memory for it.
+    // A table with a place for every code, if the codes are few enough, many numbers are noted, and there is memory for it.
     fn indexed(&self, slots: &Slots) -> Option<Table>
-        requires { self.now.limit ≤ 16777216 }
         ensures { HoldsOf slots.now result }
     {
-        let mut direct = Direct::with_places(self.heap, self.limit as usize)?;
+        let codes = self.codes?;
+        if slots.places() < SWITCH {
+            return None;
+        }
+        let mut direct = Direct::with_places(self.heap, codes)?;
         slots.copy_into(&mut direct);
         Some(Table::Indexed(direct))
     }

@@ -106,10 +106,6 @@ lowest_common p q both (Some r) e past h =
     let t = and_parts (p r) (q r) (sym (e r) ∙ h.here) in
     (t.0, t.1, λ j l (a, b). both_ways _ (h.passed j (omega arith) l) (e j ∙ and_from _ _ a b))
 
-pub meet_by_common : (p q : ℕ → Bool) (r : Option ℕ) → MatchOption r (Meet p q → ⊥) (Lowest p q) → Decides (is_some r) (Meet p q)
-meet_by_common p q None h = (λ e. absurd (false≢true e), λ m. absurd (h m))
-meet_by_common p q (Some r) h = (λ _. (r, h.0, h.1), λ _. refl)
-
 -- a set has no number from n on exactly when there is no next one
 pub below_by_next : (p : ℕ → Bool) (n : ℕ) (r : Option ℕ) (b : Bool) → is_some r ≡ not b → ((k : ℕ) → 384 ≤ k → p k ≡ false) → Next p n r → Decides b ((k : ℕ) → p k ≡ true → k < n)
 below_by_next p n None false e past h = absurd (false≢true e)

@@ -1,13 +1,15 @@
 -- The members of a set of six words.
 -- Assumes nothing.
-use Rattle.std.proofs.Common.{◌≡◌, ℕ, zero, suc, ◌-◌, ◌*◌, ◌/◌, ◌%◌, ◌^◌, ◌<◌, ◌≤◌, Bool, true, false, not, ◌&&◌, ◌||◌, eqb, ltb, ◌≢◌, List, [], ◌∷◌, length, get_or, set, sym, refl, ap, ◌∙◌, inl, inr, arith}
+use Rattle.std.proofs.Common.{◌≡◌, ℕ, zero, suc, ◌+◌, ◌-◌, ◌*◌, ◌/◌, ◌%◌, ◌^◌, ◌<◌, ◌≤◌, Bool, true, false, not, ◌&&◌, ◌||◌, eqb, ltb, ◌≢◌, List, [], ◌∷◌, length, get_or, set, Decides, MatchBool, sym, refl, ap, subst, ◌∙◌, inl, inr, arith}
 use lib.Bits.{bit_and, bit_or}
-use Rattle.std.proofs.lemmas.Bool.{cases_eq, cases_lt, eq-eqb, ne_eqb, lt-ltb, le-ltb}
+use Rattle.std.specs.List.{AllWithin, HoldsAt, zip}
+use Rattle.std.proofs.lemmas.Bool.{cases_eq, cases_lt, and_parts, and_from, both_ways, eq-eqb, ne_eqb, lt-ltb, le-ltb, false≢true}
 use Rattle.std.proofs.lemmas.List.{get_or-set_same, get_or-set_other, get_or_past}
-use Rattle.std.proofs.lemmas.Nat.{mod_below}
+use Rattle.std.proofs.lemmas.Nat.{and_le_l, mod_below}
+use Rattle.std.proofs.lemmas.Slice.Zip.{get_or-zip, length-zip}
 use Rattle.bits.specs.Bits.{bit}
-use Rattle.bits.proofs.Words.{bit_or_lem, bit_and_lem, bit_none, bit_not, bit_one, one_shl_64}
-use Rattle.nodesets.specs.Sets.{mem}
+use Rattle.bits.proofs.Words.{bit_or_lem, bit_and_lem, bit_none, bit_not, bit_one, one_shl_64, some_bit}
+use Rattle.nodesets.specs.Sets.{mem, Meet}
 
 -- a number by its word and its bit
 same_word : (j k : ℕ) → j / 64 ≡ k / 64 → eqb (j % 64) (k % 64) ≡ eqb j k
@@ -105,3 +107,39 @@ mem_zeros j = rw (at (j / 64)) (bit_none (j % 64))
     at (suc (suc (suc (suc zero)))) = refl
     at (suc (suc (suc (suc (suc zero))))) = refl
     at (suc (suc (suc (suc (suc (suc i)))))) = refl
+
+shared_bit : (a b : ℕ) → bit_and a b ≢ 0 → a < 2 ^ 64 → (j : ℕ) × (j < 64) × (bit a j ≡ true) × (bit b j ≡ true)
+shared_bit a b some fits =
+    let (j, l, t) = some_bit 64 (bit_and a b) (omega (arith, and_le_l a b)) some in
+    let (p, q) = and_parts (bit a j) (bit b j) (sym (bit_and_lem a b j) ∙ t) in
+    (j, l, p, q)
+
+-- two sets meet exactly where some word of one has a bit of the other's
+module _ (ws vs : List ℕ) (six : length ws ≡ 6) (too : length vs ≡ 6) where
+  pairs : length (zip ws vs) ≡ 6
+  pairs = length-zip ws vs ∙ rw (six, too)
+
+  pair_at : (P : ℕ × ℕ → Type 0) (i : ℕ) → i < 6 → HoldsAt P (zip ws vs) i → P (get_or ws i 0, get_or vs i 0)
+  pair_at P i l h = subst P (get_or-zip ws vs i (0, 0) (omega arith) (omega arith)) (h (0, 0))
+
+  pub meet_by_words : (r : Bool)
+      → MatchBool r ((i : ℕ) × (i < length (zip ws vs)) × HoldsAt (λ p. (bit_and p.0 p.1 ≢ 0) × (p.0 < 2 ^ 64)) (zip ws vs) i) (AllWithin (λ p. bit_and p.0 p.1 ≡ 0) (zip ws vs) 0 (length (zip ws vs)))
+      → Decides r (Meet (mem ws) (mem vs))
+  unfolding mem
+  meet_by_words true (i, l, some) =
+      let n = pairs in
+      let (meets, fits) = pair_at (λ p. (bit_and p.0 p.1 ≢ 0) × (p.0 < 2 ^ 64)) i (omega arith) some in
+      let (j, m, p, q) = shared_bit (get_or ws i 0) (get_or vs i 0) meets fits in
+      let d : (i * 64 + j) / 64 ≡ i = omega arith in
+      let e : (i * 64 + j) % 64 ≡ j = omega arith in
+      (λ _. (i * 64 + j, rw (d, e) p, rw (d, e) q), λ _. refl)
+  meet_by_words false none = (
+    λ e. absurd (false≢true e),
+    λ (k, a, b). elim (cases_lt (k / 64) 6) [
+      | inl l ↦
+          let n = pairs in
+          let z = pair_at (λ p. bit_and p.0 p.1 ≡ 0) (k / 64) l (λ d. none (k / 64) d (omega arith) (omega arith)) in
+          absurd (both_ways _ (bit_none (k % 64)) (ap (λ w. bit w (k % 64)) (sym z) ∙ bit_and_lem _ _ (k % 64) ∙ and_from _ _ a b))
+      | inr l ↦ absurd (both_ways _ (mem_past ws k six (omega arith)) a)
+    ],
+  )

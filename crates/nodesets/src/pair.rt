@@ -10,22 +10,25 @@ ghost use Rattle.nodesets.specs.Pairs.{Within, by};
 use crate::nodeset::NodeSet;
 use games::side::Side;
 
-#[derive(Clone, Copy)]
+#[derive(Clone, Copy, Debug, PartialEq, Eq, Hash)]
 pub struct Pair {
     pub left: NodeSet,
     pub right: NodeSet,
 }
 
-impl Pair {
-    pub fn empty() -> Pair
-        ensures { (s : Side) (k : ℕ) → by result s k ≡ false }
-    {
+impl Default for Pair {
+    ghost is_default = { λ p. (s : Side) (k : ℕ) → by p s k ≡ false };
+
+    // Two sets of no nodes.
+    fn default() -> Pair {
         Pair {
-            left: NodeSet::empty(),
-            right: NodeSet::empty(),
+            left: NodeSet::default(),
+            right: NodeSet::default(),
         }
     }
+}
 
+impl Pair {
     // The set of a side.
     pub fn of(&self, side: Side) -> &NodeSet
         ensures { (k : ℕ) → has result.now k ≡ by self.now side k }

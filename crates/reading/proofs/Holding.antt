@@ -75,10 +75,3 @@ module _ {A : Type 0} (keeps : A → Lists → Type 0) where
     pub holds_put : (was fs later : List (Frame A)) → was ≡ f ∷ fs → later ≡ frame f.side p ∷ fs → (g : Form) (bs : List Bracket) (ls : List Lists) → Holds keeps was bs ls
         → Holds keeps later (brackets (finish g bs)) (put_outside m bs ls)
     holds_put was fs later e d g bs ls h = subst (λ x. Holds keeps x (brackets (finish g bs)) (put_outside m bs ls)) (sym d) (put_on fs g bs ls (subst (λ x. Holds keeps x bs ls) e h))
-
-  put_nowhere : (m : ℕ) (g : Form) (bs : List Bracket) (ls : List Lists) → Holds keeps [] bs ls → Holds keeps [] (brackets (finish g bs)) (put_outside m bs ls)
-  put_nowhere m g [] ls h = h
-  put_nowhere m g (b ∷ bs) ls h = absurd h
-
-  pub holds_no_put : (m : ℕ) (was later : List (Frame A)) → was ≡ [] → later ≡ [] → (g : Form) (bs : List Bracket) (ls : List Lists) → Holds keeps was bs ls → Holds keeps later (brackets (finish g bs)) (put_outside m bs ls)
-  holds_no_put m was later e d g bs ls h = subst (λ x. Holds keeps x (brackets (finish g bs)) (put_outside m bs ls)) (sym d) (put_nowhere m g bs ls (subst (λ x. Holds keeps x bs ls) e h))

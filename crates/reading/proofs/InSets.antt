@@ -1,20 +1,15 @@
 -- The options of a bracket as two sets of nodes.
 -- Assumes nothing.
-use Rattle.std.proofs.Common.{◌≡◌, ℕ, ◌<◌, Bool, false, ◌&&◌, ◌||◌, eqb, ltb, List, sym, ◌∙◌}
+use Rattle.std.proofs.Common.{◌≡◌, ℕ, ◌<◌, Bool, ◌&&◌, ◌||◌, eqb, ltb, List, sym, ◌∙◌}
 use Rattle.games.specs.Numbered.{Lists}
 use Rattle.games.specs.Sides.{other}
 use Rattle.games.specs.declared.side.Side.{Side}
 use Rattle.games.specs.declared.side.Side.TheVariants.{Left, Right}
 use Rattle.nodesets.specs.declared.pair.Pair.{Pair}
 use Rattle.nodesets.specs.Pairs.{by}
-use Rattle.calls.specs.Rows.{no_numbers}
 use Rattle.dictionary.specs.Kept.{ListsOf}
-use Rattle.dictionary.proofs.Told.{Are, are_none, are_more}
+use Rattle.dictionary.proofs.Told.{Are, are_more}
 use Rattle.reading.specs.Sided.{with_number}
-
-pub no_lists : (p : Pair) → ((s : Side) (k : ℕ) → by p s k ≡ false) → ListsOf (by p) no_numbers
-no_lists p e Left = are_none (by p Left) (e Left)
-no_lists p e Right = are_none (by p Right) (e Right)
 
 like : (a b : ℕ → Bool) → ((k : ℕ) → a k ≡ b k) → (ns : List ℕ) → Are ns b → Are ns a
 like a b e ns x k = (λ i. e k ∙ (x k).0 i, λ h. (x k).1 (sym (e k) ∙ h))

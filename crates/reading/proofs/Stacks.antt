@@ -1,29 +1,22 @@
 -- A stack in a list, its top last.
 -- Assumes nothing.
-use Rattle.std.proofs.Common.{◌≡◌, ℕ, ◌+◌, ◌-◌, ◌<◌, List, [], ◌∷◌, ◌++◌, reverse, length, take, Some, None, slice_get, sym, refl, ap, ◌∙◌, arith}
-use Rattle.std.proofs.lemmas.List.{reverse-append, take_all, take_more}
-use Rattle.std.proofs.lemmas.Option.{get_or_from_slice_get, slice_get-get_or, slice_get_within}
+use Rattle.std.proofs.Common.{◌≡◌, ℕ, ◌+◌, ◌<◌, ◌≤◌, List, [], ◌∷◌, ◌++◌, reverse, length, get_or, take, set, sym, ap, ◌∙◌, subst, arith, length-set}
+use Rattle.std.proofs.lemmas.List.{reverse-append, take_all, take_more, take_more_set}
+use Rattle.games.specs.declared.side.Side.TheVariants.{Right}
 use Rattle.reading.specs.declared.frames.Frame.{Frame}
-use Rattle.reading.specs.Held.{top_side}
+use Rattle.reading.specs.Held.{Turned}
 
 -- a push
 pub pushed : {A : Type 0} (xs ys : List A) (x : A) → ys ≡ xs ++ x ∷ [] → reverse ys ≡ x ∷ reverse xs
 pushed xs ys x e = ap reverse e ∙ reverse-append xs (x ∷ [])
 
--- the last item is the top
-last_is : {A : Type 0} (xs : List A) (x : A) → slice_get xs (length xs - 1) ≡ Some x → reverse xs ≡ x ∷ reverse (take (length xs - 1) xs)
-last_is xs x e =
-    let n = length xs - 1 in
-    let h : n < length xs = slice_get_within xs n x e in
-    let one : length xs ≡ n + 1 = omega arith in
-    pushed (take n xs) xs x (sym (take_all (length xs) xs (omega arith)) ∙ (ap (λ k. take k xs) one ∙ (take_more xs n x h ∙ ap (λ y. take n xs ++ y ∷ []) (get_or_from_slice_get xs n x x e))))
+-- the last item is the top, and another one may take its place
+module _ {A : Type 0} (xs : List A) (n : ℕ) (inside : n < length xs) (last : length xs ≤ n + 1) where
+  pub top_is : (x : A) → x ≡ get_or xs n x → reverse xs ≡ x ∷ reverse (take n xs)
+  top_is x e = pushed (take n xs) xs x (sym (take_all (n + 1) xs last) ∙ (take_more xs n x inside ∙ ap (λ y. take n xs ++ y ∷ []) (sym e)))
 
-module _ {A : Type 0} (xs : List (Frame A)) where
-  pub top_some : (x : Frame A) → slice_get xs (length xs - 1) ≡ Some x → top_side (reverse xs) ≡ Some x.side
-  top_some x e = ap top_side (last_is xs x e)
+  pub top_set : (y : A) → reverse (set xs n y) ≡ y ∷ reverse (take n xs)
+  top_set y = let l = length-set xs n y in pushed (take n xs) (set xs n y) y (sym (take_all (n + 1) (set xs n y) (omega arith)) ∙ take_more_set xs n y inside)
 
-pub top_none : {A : Type 0} (xs : List (Frame A)) → slice_get xs (length xs - 1) ≡ None → top_side (reverse xs) ≡ None
-top_none [] e = refl
-top_none (x ∷ xs) e =
-    let h = slice_get-get_or (x ∷ xs) (length (x ∷ xs) - 1) x (omega arith) in
-    let z : ◌≡◌ {A = ℕ} 0 1 = cc in absurd (omega arith)
+pub turned : {A : Type 0} (xs : List (Frame A)) (n : ℕ) → n < length xs → length xs ≤ n + 1 → (f : Frame A) → f ≡ get_or xs n f → Turned (reverse xs) (reverse (set xs n (record { side = Right; options = f.options })))
+turned xs n inside last f e = subst (λ us. Turned us (reverse (set xs n (record { side = Right; options = f.options })))) (sym (top_is xs n inside last f e)) (top_set xs n inside last (record { side = Right; options = f.options }))

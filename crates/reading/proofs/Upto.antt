@@ -16,7 +16,7 @@ use Rattle.calls.proofs.Texts.{Alive, at}
 use Rattle.reading.specs.declared.mark.Mark.{Mark}
 use Rattle.reading.specs.declared.mark.NoMark.{NoMark}
 use Rattle.reading.specs.Marks.{Marks, meant, mark_of}
-use Rattle.reading.proofs.Checked.{mark_is, no_mark_is}
+use Rattle.reading.proofs.Marked.{mark_is, no_mark_is}
 
 -- where the machine stands after i marks of g's text
 abbrev pub upto : Form → ℕ → State

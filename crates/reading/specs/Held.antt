@@ -1,22 +1,17 @@
 -- What the open brackets of the code hold, in the words of the calls: each has its side, and what it keeps of the numbers of its options.
 -- Assumes nothing.
 use Rattle.std.specs.Prelude.{◌≡◌, List, [], ◌∷◌, reverse, Some, None, Option}
-use Rattle.games.specs.declared.side.Side.{Side}
 use Rattle.games.specs.declared.side.Side.TheVariants.{Left, Right}
 use Rattle.games.specs.Numbered.{Lists}
-use Rattle.games.proofs.Reader.{Bracket, in_left, in_right}
+use Rattle.games.proofs.Reader.{Bracket}
 use Rattle.calls.specs.Rows.{no_numbers}
+use Rattle.calls.specs.TextSpots.{side_of}
 use Rattle.reading.specs.declared.frames.Frame.{Frame}
 use Rattle.reading.specs.declared.frames.Frames.{Frames}
 
 -- the frames, innermost first
 abbrev pub stack_of : {A : Type 0} → Frames A → List (Frame A)
 stack_of f = reverse f.items.items
-
--- the side of the innermost
-abbrev pub top_side : {A : Type 0} → List (Frame A) → Option Side
-top_side [] = None
-top_side (f ∷ fs) = Some f.side
 
 -- a bracket just opened: its Left options are read, and it has none
 abbrev pub Fresh : {A : Type 0} → (A → Lists → Type 0) → Frame A → Type 0
@@ -31,11 +26,6 @@ Turned (f ∷ fs) after = after ≡ record { side = Right; options = f.options }
 abbrev pub Popped : {A : Type 0} → List (Frame A) → Option A → List (Frame A) → Type 0
 Popped [] r after = (r ≡ None) × (after ≡ [])
 Popped (f ∷ fs) r after = (r ≡ Some f.options) × (after ≡ fs)
-
--- the side whose options are being read in an open bracket
-abbrev pub side_of : Bracket → Side
-side_of (in_left ls) = Left
-side_of (in_right ls rs) = Right
 
 -- the frame of an open bracket: its side, and what is kept of the numbers of its options
 pub record Held {A : Type 0} (keeps : A → Lists → Type 0) (f : Frame A) (b : Bracket) (l : Lists) : Type 0 where

@@ -1,6 +1,5 @@
 pub mod Marks
 pub mod Faults
-pub mod Standing
 pub mod Verdict
 pub mod Sided
 pub mod Held
@@ -9,3 +8,4 @@ pub mod Sealed
 pub mod Spelt
 pub mod Found
 pub mod TextRead
+pub mod OptionsLemmas

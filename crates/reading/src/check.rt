@@ -2,21 +2,19 @@
 ghost use Rattle.reading.specs.Verdict.{Verdict};
 
 use crate::fault::TextFault;
-use crate::mark::Mark;
-use crate::reader::Reader;
+use calls::nest::Nest;
 
 // Refuses a text that is no form's, or is nested too deep, at the first byte that is not in order.
 pub fn check(text: &[u8]) -> Result<(), TextFault>
     ensures { Verdict text.now result }
 {
-    let mut reader = Reader::begin();
+    let mut nest = Some(Nest::new());
     for (place, byte) in text.iter().enumerate() {
-        let mark = Mark::try_from(*byte).map_err(|_| TextFault::WrongByte(place))?;
-        reader.take(mark).map_err(|misstep| misstep.at(place))?;
+        let inside = nest.ok_or(TextFault::WrongByte(place))?;
+        nest = inside.take(*byte, place)?;
     }
-    if reader.is_done() {
-        Ok(())
-    } else {
-        Err(TextFault::EarlyEnd(text.len()))
+    match nest {
+        Some(_) => Err(TextFault::EarlyEnd(text.len())),
+        None => Ok(()),
     }
 }

@@ -8,6 +8,5 @@ pub mod look_up;
 pub mod mark;
 mod options;
 pub mod read;
-mod reader;
 mod spelling;
 mod walk;

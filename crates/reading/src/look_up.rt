@@ -27,6 +27,5 @@ pub fn look_up<S: Store>(frozen: &Frozen<S>, text: &[u8]) -> Result<u16, LookUpF
     ensures nodes { FindsNodes frozen.now.rows text.now result }
 {
     check(text)?;
-    let mut rows = frozen;
-    walk(&mut rows, &mut Frames::none(), text)
+    walk(&mut &*frozen, &mut Frames::none(), text)
 }

@@ -2,7 +2,7 @@
 ghost use Rattle.reading.specs.Marks.{Marks};
 
 // What a text is made of: `{`, `|`, `}` and `,`.
-#[derive(Clone, Copy)]
+#[derive(Clone, Copy, Debug, PartialEq, Eq)]
 pub enum Mark {
     Open,
     Bar,
@@ -11,7 +11,7 @@ pub enum Mark {
 }
 
 // A byte is no mark's.
-#[derive(Clone, Copy)]
+#[derive(Clone, Copy, Debug, PartialEq, Eq)]
 pub struct NoMark;
 
 impl TryFrom<u8> for Mark {

@@ -1,15 +1,17 @@
 // The options of an open bracket as they are written.
+ghost use Rattle.std.proofs.Common.{rules};
 ghost use Rattle.reading.specs.Spelt.{spelt};
 
 use crate::options::Options;
+use games::bounds::MOST_OPTIONS;
 use games::side::Side;
 use stores::numbers::Numbers;
 
 // How many numbers of a side are kept: one more than a row can have, so that a longer list is found in no row.
-const KEPT: usize = 17;
+const KEPT: usize = MOST_OPTIONS + 1;
 
 // The numbers of the Left options and of the Right options, in their order.
-#[derive(Clone, Copy)]
+#[derive(Clone, Copy, Default, PartialEq, Eq)]
 pub(crate) struct Spelling {
     pub(crate) left: Numbers<KEPT>,
     pub(crate) right: Numbers<KEPT>,
@@ -18,12 +20,7 @@ pub(crate) struct Spelling {
 impl Options for Spelling {
     ghost keeps = { λ s l. spelt s l };
 
-    fn none() -> Spelling {
-        Spelling {
-            left: Numbers::none(),
-            right: Numbers::none(),
-        }
-    }
+    ghost blank = { Prim.search rules };
 
     fn put(&mut self, side: Side, node: u16) {
         match side {

@@ -1,3 +1,4 @@
+pub mod Recalled
 pub mod Arranging
 pub mod Forming
 pub mod Somes

@@ -1,8 +1,8 @@
 -- The listed nodes of a set, counted and written to a buffer.
 -- Assumes nothing.
-use Rattle.std.proofs.Common.{◌≡◌, ℕ, suc, ◌+◌, ◌<◌, ◌≤◌, Bool, true, false, cond, List, [], ◌∷◌, ◌++◌, length, get_or, take, drop, set, filter, sym, refl, ap, ◌∙◌, append-nil, add-one, arith, drop-cons}
-use Rattle.std.proofs.lemmas.List.Elements.{filter_more}
-use Rattle.std.proofs.lemmas.List.{append_assoc, length_push, set_at, take_all, take-append-le, drop_all}
+use Rattle.std.proofs.Common.{◌≡◌, ℕ, suc, ◌+◌, ◌<◌, ◌≤◌, Bool, true, false, cond, List, [], ◌∷◌, ◌++◌, length, get_or, take, drop, set, filter, sym, refl, ap, ◌∙◌, append-nil, length-append, add-one, arith, drop-cons}
+use Rattle.std.proofs.lemmas.List.Elements.{filter_more, filter-append}
+use Rattle.std.proofs.lemmas.List.{append_assoc, length_push, set_at, take_all, take-append-le, drop_all, take-append-drop}
 
 -- the buffer with xs at its front, as far as it reaches
 abbrev pub written : List ℕ → List ℕ → List ℕ
@@ -42,3 +42,7 @@ module _ (p : ℕ → Bool) (ks : List ℕ) (i : ℕ) (h : i < length ks) where
 
   pub count_with : p (get_or ks i 0) ≡ true → length (filter p (take (i + 1) ks)) ≡ length (filter p (take i ks)) + 1
   count_with t = ap length (kept_with t) ∙ length_push (filter p (take i ks)) (get_or ks i 0)
+
+-- the first of a list have no more nodes of the set than all have
+pub count_first : (p : ℕ → Bool) (ks : List ℕ) (i : ℕ) → length (filter p (take i ks)) ≤ length (filter p ks)
+count_first p ks i = let e = ap (λ ls. length (filter p ls)) (take-append-drop i ks) in let h = simp (filter-append, length-append) at e in omega arith

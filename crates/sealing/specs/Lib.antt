@@ -8,3 +8,4 @@ pub mod Views
 pub mod Walks
 pub mod Seals
 pub mod Games
+pub mod Remembering

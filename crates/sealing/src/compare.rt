@@ -27,7 +27,7 @@ impl Nodes {
     pub fn bested(&self, side: Side, set: &NodeSet) -> NodeSet
         ensures { (h : ℕ) → has result h ≡ bested_by (ranks self.now) side (has set.now) h }
     {
-        let mut all = NodeSet::empty();
+        let mut all = NodeSet::default();
         for (o, row) in self.rows.iter().enumerate() {
             if set.contains(o) {
                 all.union(row.worse.of(side));
@@ -62,11 +62,11 @@ impl Nodes {
     {
         let mut left = Known {
             decided: self.bested(Side::Right, &moves.right),
-            worse: NodeSet::empty(),
+            worse: NodeSet::default(),
         };
         let mut right = Known {
             decided: self.bested(Side::Left, &moves.left),
-            worse: NodeSet::empty(),
+            worse: NodeSet::default(),
         };
         for h in 0..self.rows.len() {
             self.decide(Side::Left, &mut left, &right.worse, h);

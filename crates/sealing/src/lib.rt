@@ -6,6 +6,7 @@ mod game;
 mod nodes;
 mod order;
 mod place;
+pub mod recent;
 mod row;
 pub mod seal;
 pub mod tables;

@@ -1,10 +1,12 @@
 // The listing: how sets of nodes compare by it, and the nodes of a set in its order.
 ghost use Rattle.std.specs.Prelude.{◌≡◌, ◌+◌, ◌<◌, ◌≤◌, true, false, not, ◌++◌, length, take, drop, filter};
+ghost use Rattle.std.specs.Option.{SomeIff, option_map};
 ghost use Rattle.std.specs.declared.cmp.Ordering.TheVariants.{Equal};
 ghost use Rattle.nodesets.specs.Pairs.{by};
 ghost use Rattle.nodesets.specs.Sets.{has};
 ghost use Rattle.sealing.specs.Walks.{any_of, walk_step, walk_order, pair_order};
 
+use arrayvec::ArrayVec;
 use nodesets::nodeset::NodeSet;
 use nodesets::pair::Pair;
 use std::cmp::Ordering;
@@ -13,7 +15,7 @@ use std::cmp::Ordering;
 fn has_any(listing: &[u16], set: &NodeSet) -> bool
     ensures { result ≡ any_of (has set.now) listing.now }
 {
-    listing.iter().any(|k| set.contains(*k as usize))
+    listing.iter().any(|k| set.contains(usize::from(*k)))
 }
 
 // Where just one of two sets has a number: that set comes first, unless the other has none later.
@@ -34,8 +36,9 @@ fn order_sets(listing: &[u16], a: &NodeSet, b: &NodeSet) -> Ordering
 {
     let mut rest = listing;
     while let Some((k, later)) = rest.split_first() {
-        let in_a = a.contains(*k as usize);
-        let in_b = b.contains(*k as usize);
+        let node = usize::from(*k);
+        let in_a = a.contains(node);
+        let in_b = b.contains(node);
         if in_a != in_b {
             return parted(in_a, has_any(later, a), has_any(later, b));
         }
@@ -57,7 +60,7 @@ pub fn count_listed(listing: &[u16], set: &NodeSet) -> usize
 {
     listing
         .iter()
-        .filter(|k| set.contains(**k as usize))
+        .filter(|k| set.contains(usize::from(**k)))
         .count()
 }
 
@@ -68,7 +71,7 @@ pub fn write_listed(listing: &[u16], set: &NodeSet, buffer: &mut [u16]) -> usize
 {
     let mut n: usize = 0;
     for node in listing {
-        if set.contains(*node as usize) {
+        if set.contains(usize::from(*node)) {
             if n < buffer.len() {
                 buffer[n] = *node;
             }
@@ -76,4 +79,17 @@ pub fn write_listed(listing: &[u16], set: &NodeSet, buffer: &mut [u16]) -> usize
         }
     }
     n
+}
+
+// The nodes of the listing that are in the set, unless there are more than `MOST`.
+pub fn few_listed<const MOST: usize>(listing: &[u16], set: &NodeSet) -> Option<ArrayVec<u16, MOST>>
+    ensures { SomeIff (option_map (λ nodes. nodes.items) result) (length (filter (has set.now) listing.now) ≤ MOST) (filter (has set.now) listing.now) }
+{
+    let mut nodes = ArrayVec::new();
+    for node in listing {
+        if set.contains(usize::from(*node)) {
+            nodes.try_push(*node).ok()?;
+        }
+    }
+    Some(nodes)
 }

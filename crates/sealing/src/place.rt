@@ -17,7 +17,7 @@ impl Nodes {
     {
         let row = &self.rows[k];
         for (i, other) in listing.iter().enumerate() {
-            let theirs = &self.rows[*other as usize].options;
+            let theirs = &self.rows[usize::from(*other)].options;
             if order_pairs(listing, &row.options, theirs).is_lt() {
                 return i;
             }

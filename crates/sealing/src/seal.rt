@@ -2,7 +2,7 @@
 use nodesets::pair::Pair;
 
 // What two sets of nodes seal to.
-#[derive(Clone, Copy)]
+#[derive(Clone, Copy, Debug, PartialEq, Eq)]
 pub enum Sealed {
     // this node equals the form of the two sets
     Node(usize),

@@ -8,9 +8,6 @@ use super::row::Row;
 mod compare;
 mod methods;
 
-// The most rows that a store can hold.
-const MOST_ROWS: usize = 384;
-
 // At most `capacity` rows, for which there is memory; each names only lower numbers than its own.
 #[derive(Drop)]
 pub struct RowList {

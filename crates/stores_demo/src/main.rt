@@ -21,15 +21,13 @@ fn print_run(
     answers: &[StoreAnswer],
 ) -> anyhow::Result<()> {
     println!(rt; "{name}")?;
-    for (call, answer) in calls.iter().zip(answers.iter()) {
-        let asked = Asked(*call);
-        let answered = Answered(*answer);
-        println!(rt; "  {asked}: {answered}")?;
+    for (call, answer) in calls.iter().zip(answers) {
+        println!(rt; "  {}: {}", Asked(*call), Answered(*answer))?;
     }
     Ok(())
 }
 
-fn run(rt: &HostRuntime) -> anyhow::Result<()> {
+fn main(rt: HostRuntime) -> anyhow::Result<()> {
     let heap = rt.alloc();
     let calls = script(heap)?;
     let Ok(mut list) = OrderedList::new(heap, CAPACITY) else {
@@ -38,11 +36,7 @@ fn run(rt: &HostRuntime) -> anyhow::Result<()> {
     let Ok(mut table) = HashTable::new(heap, CAPACITY) else {
         return Err(anyhow!("no memory for the table"));
     };
-    let (first, second) = replay_both(heap, &mut list, &mut table, calls.as_slice())?;
-    print_run(rt, "ordered list", calls.as_slice(), first.as_slice())?;
-    print_run(rt, "hash-consed table", calls.as_slice(), second.as_slice())
-}
-
-fn main(rt: HostRuntime) -> anyhow::Result<()> {
-    run(&rt)
+    let (first, second) = replay_both(heap, &mut list, &mut table, &calls)?;
+    print_run(&rt, "ordered list", &calls, &first)?;
+    print_run(&rt, "hash-consed table", &calls, &second)
 }

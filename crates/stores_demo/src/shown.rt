@@ -16,7 +16,6 @@ fn write_list<W: fmt::Write>(list: &[u16], f: &mut fmt::Formatter<W>) -> fmt::Re
         if i > 0 {
             write!(f, ",")?;
         }
-        let number = *number;
         write!(f, "{number}")?;
     }
     Ok(())
@@ -60,10 +59,7 @@ impl fmt::Display for Answered {
             StoreAnswer::Number(Some(number)) => write!(f, "{number}"),
             StoreAnswer::Number(None) => write!(f, "none"),
             StoreAnswer::Appended(Ok(number)) => write!(f, "{number}"),
-            StoreAnswer::Appended(Err(fault)) => {
-                let number = fault.number();
-                write!(f, "refused with {number}")
-            }
+            StoreAnswer::Appended(Err(fault)) => write!(f, "refused with {}", fault.number()),
             StoreAnswer::Done => write!(f, "done"),
         }
     }

@@ -8,7 +8,7 @@ ghost use Rattle.std.proofs.Common.{rules};
 use games::side::Side;
 use rulesets::ruleset::Ruleset;
 
-#[derive(Clone, Copy)]
+#[derive(Clone, Copy, Debug, PartialEq, Eq)]
 pub struct Minus<R> {
     inner: R,
 }

@@ -17,14 +17,14 @@ const MOST_MOVES: usize = 256;
 
 const MOST_DEPTH: usize = 96;
 
-#[derive(Clone, Copy)]
+#[derive(Clone, Copy, Debug, PartialEq, Eq)]
 pub struct Sum<A, B> {
     first: A,
     second: B,
 }
 
 // The numbers that a ruleset keeps to.
-#[derive(Clone, Copy)]
+#[derive(Clone, Copy, Debug, PartialEq, Eq)]
 struct Bounds {
     limit: u64,
     width: usize,
@@ -69,15 +69,21 @@ impl<A: Ruleset, B: Ruleset> Sum<A, B> {
         sum_bounds(&self.first, &self.second)
     }
 
+    // Whether this sum keeps to the bounds.
+    fn fits(&self) -> bool
+        ensures { result ≡ fits (A.Ruleset.rules self.now.first) (B.Ruleset.rules self.now.second) }
+    {
+        self.bounds().is_some()
+    }
+
     // The parts' codes, where both are legal and the parts fit.
     fn parts(&self, code: u64) -> Option<(u64, u64)>
         ensures { result ≡ part_codes (A.Ruleset.rules self.now.first) (B.Ruleset.rules self.now.second) code }
     {
-        self.bounds()?;
         let base = self.second.limit();
         let first = code / base;
         let second = code % base;
-        let legal = self.first.is_legal(first) && self.second.is_legal(second);
+        let legal = self.fits() && self.first.is_legal(first) && self.second.is_legal(second);
         legal.then_some((first, second))
     }
 }

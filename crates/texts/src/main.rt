@@ -5,6 +5,7 @@ use demos::shown::{Demo, Shown, begin, over_both};
 use demos::told::text;
 use dictionary::dictionary::Dictionary;
 use dictionary::frozen::Frozen;
+use games::bounds::MOST_NODES;
 use reading::check::check;
 use reading::look_up::look_up;
 use reading::read::read;
@@ -12,7 +13,7 @@ use std::alloc::AllocError;
 use stores::store::Store;
 
 // Texts of forms, and texts with a fault: at the first byte, at the last, behind it, and between.
-const CHECKED: [&'static str; 19] = [
+const CHECKED: [&str; 19] = [
     "",
     "{",
     "{|",
@@ -34,8 +35,11 @@ const CHECKED: [&'static str; 19] = [
     "{{|}|{|}}",
 ];
 
+// A beginning, and what follows it so many times: the bracket too deep stands in a Right list, and behind an option.
+const TOO_DEEP: [(&str, &str, usize); 2] = [("", "{|", 97), ("{{|},", "{", 96)];
+
 // 0, 1, -1, *, a form equal to 0, one equal to *, then 2 and the half, for which a store of 4 rows has no room, and two faults.
-const READ: [&'static str; 10] = [
+const READ: [&str; 10] = [
     "{|}",
     "{{|}|}",
     "{|{|}}",
@@ -49,7 +53,7 @@ const READ: [&'static str; 10] = [
 ];
 
 // The texts of four nodes, forms equal to one of them in other words, forms of no node, and texts with a fault.
-const LOOKED_UP: [&'static str; 10] = [
+const LOOKED_UP: [&str; 10] = [
     "{|}",
     "{{|}|}",
     "{{{|}|}|}",
@@ -62,127 +66,138 @@ const LOOKED_UP: [&'static str; 10] = [
     "{|{|}}}",
 ];
 
-// What is shown over each store.
-#[derive(Clone, Copy)]
-enum Part {
-    OneRow,
-    Reads,
-    Extremes,
-    NoNodes,
-    LookUps,
-}
-
-impl Demo for Part {
-    fn over<S: Shown>(&self, rt: &HostRuntime) -> anyhow::Result<()> {
-        match self {
-            Part::OneRow => one_row::<S>(rt),
-            Part::Reads => reads::<S>(rt),
-            Part::Extremes => extremes::<S>(rt),
-            Part::NoNodes => no_nodes::<S>(rt),
-            Part::LookUps => look_ups::<S>(rt),
-        }
-    }
-}
-
 fn main(rt: HostRuntime) -> anyhow::Result<()> {
     checks(&rt)?;
-    for part in [
-        Part::OneRow,
-        Part::Reads,
-        Part::Extremes,
-        Part::NoNodes,
-        Part::LookUps,
-    ] {
-        over_both(&rt, &part)?;
-    }
-    Ok(())
+    deep_checks(&rt)?;
+    over_both(&rt, &OneRow)?;
+    over_both(&rt, &Reads)?;
+    over_both(&rt, &Extremes)?;
+    over_both(&rt, &NoNodes)?;
+    over_both(&rt, &LookUps)
 }
 
 fn checks(rt: &HostRuntime) -> anyhow::Result<()> {
     println!(rt; "texts")?;
     for text in CHECKED {
-        match check(text.as_bytes()) {
-            Ok(()) => println!(rt; "[{text}]: a form's")?,
-            Err(fault) => println!(rt; "[{text}]: {} at {}", fault.number(), fault.place())?,
-        }
+        show_check(rt, text)?;
+    }
+    Ok(())
+}
+
+fn deep_checks(rt: &HostRuntime) -> anyhow::Result<()> {
+    for (beginning, part, times) in TOO_DEEP {
+        let mut text = String::new(rt.alloc());
+        text.push_str(beginning)?;
+        push_times(&mut text, part, times)?;
+        show_check(rt, text.as_str())?;
+    }
+    Ok(())
+}
+
+fn show_check(rt: &HostRuntime, text: &str) -> anyhow::Result<()> {
+    match check(text.as_bytes()) {
+        Ok(()) => println!(rt; "[{text}]: a form's")?,
+        Err(fault) => println!(rt; "[{text}]: {} at {}", fault.number(), fault.place())?,
     }
     Ok(())
 }
 
 // The earliest bracket for which there is no room.
-fn one_row<S: Shown>(rt: &HostRuntime) -> anyhow::Result<()> {
-    let Ok(mut dictionary) = begin::<S>(rt.alloc(), 1) else {
-        return Ok(());
-    };
-    println!(rt; "{} of 1 row", S::NAME)?;
-    show_read(rt, &mut dictionary, "{{|}|}", b"{{|}|}")?;
-    let frozen = dictionary.freeze();
-    for text in ["{|}", "{{|}|}"] {
-        show_look_up(rt, &frozen, text, text.as_bytes())?;
+struct OneRow;
+
+impl Demo for OneRow {
+    fn over<S: Shown>(&self, rt: &HostRuntime) -> anyhow::Result<()> {
+        let Ok(mut dictionary) = begin::<S>(rt.alloc(), 1) else {
+            return Ok(());
+        };
+        println!(rt; "{} of 1 row", S::NAME)?;
+        show_read(rt, &mut dictionary, "{{|}|}", b"{{|}|}")?;
+        let frozen = dictionary.freeze();
+        for text in ["{|}", "{{|}|}"] {
+            show_look_up(rt, &frozen, text, text.as_bytes())?;
+        }
+        Ok(())
     }
-    Ok(())
 }
 
 // Reads the texts, and then reads back what is printed for each node.
-fn reads<S: Shown>(rt: &HostRuntime) -> anyhow::Result<()> {
-    let Ok(mut dictionary) = begin::<S>(rt.alloc(), 4) else {
-        return Ok(());
-    };
-    println!(rt; "reading into {} of 4 rows", S::NAME)?;
-    for text in READ {
-        show_read(rt, &mut dictionary, text, text.as_bytes())?;
-    }
-    for node in 0..4 {
-        if let Ok(text) = text(&dictionary, node, &mut [0; 64]) {
-            show_read(rt, &mut dictionary, "read back", text)?;
+struct Reads;
+
+impl Demo for Reads {
+    fn over<S: Shown>(&self, rt: &HostRuntime) -> anyhow::Result<()> {
+        let Ok(mut dictionary) = begin::<S>(rt.alloc(), 4) else {
+            return Ok(());
+        };
+        println!(rt; "reading into {} of 4 rows", S::NAME)?;
+        for text in READ {
+            show_read(rt, &mut dictionary, text, text.as_bytes())?;
         }
+        for node in 0..4 {
+            if let Ok(text) = text(&dictionary, node, &mut [0; 64]) {
+                show_read(rt, &mut dictionary, "read back", text)?;
+            }
+        }
+        Ok(())
     }
-    Ok(())
 }
 
-fn extremes<S: Shown>(rt: &HostRuntime) -> anyhow::Result<()> {
-    let Ok(mut dictionary) = begin::<S>(rt.alloc(), 384) else {
-        return Ok(());
-    };
-    println!(rt; "deep and wide forms, over {}", S::NAME)?;
-    for (name, depth) in [("97 deep", 97), ("96 deep", 96), ("and again", 96)] {
-        show_read(rt, &mut dictionary, name, number(rt, depth)?.as_bytes())?;
+// Forms as deep and as wide as may be, and what is beyond.
+struct Extremes;
+
+impl Demo for Extremes {
+    fn over<S: Shown>(&self, rt: &HostRuntime) -> anyhow::Result<()> {
+        let Ok(mut dictionary) = begin::<S>(rt.alloc(), MOST_NODES) else {
+            return Ok(());
+        };
+        println!(rt; "deep and wide forms, over {}", S::NAME)?;
+        for (name, depth) in [("97 deep", 97), ("96 deep", 96), ("and again", 96)] {
+            show_read(rt, &mut dictionary, name, number(rt, depth)?.as_bytes())?;
+        }
+        for (name, count) in [("16 options", 16), ("17 options", 17)] {
+            show_read(rt, &mut dictionary, name, switches(rt, count)?.as_bytes())?;
+        }
+        let inside = format!(in rt.alloc(); "{{{}|}}", switches(rt, 17)?)?;
+        show_read(rt, &mut dictionary, "17 options inside", inside.as_bytes())
     }
-    for (name, count) in [("16 options", 16), ("17 options", 17)] {
-        show_read(rt, &mut dictionary, name, switches(rt, count)?.as_bytes())?;
-    }
-    let inside = format!(in rt.alloc(); "{{{}|}}", switches(rt, 17)?)?;
-    show_read(rt, &mut dictionary, "17 options inside", inside.as_bytes())
 }
 
 // The earliest bracket that is no node's.
-fn no_nodes<S: Shown>(rt: &HostRuntime) -> anyhow::Result<()> {
-    let Ok(dictionary) = begin::<S>(rt.alloc(), 1) else {
-        return Ok(());
-    };
-    println!(rt; "looking up among no nodes, over {}", S::NAME)?;
-    show_look_up(rt, &dictionary.freeze(), "{{|}|}", b"{{|}|}")
+struct NoNodes;
+
+impl Demo for NoNodes {
+    fn over<S: Shown>(&self, rt: &HostRuntime) -> anyhow::Result<()> {
+        let Ok(dictionary) = begin::<S>(rt.alloc(), 1) else {
+            return Ok(());
+        };
+        println!(rt; "looking up among no nodes, over {}", S::NAME)?;
+        show_look_up(rt, &dictionary.freeze(), "{{|}|}", b"{{|}|}")
+    }
 }
 
-fn look_ups<S: Shown>(rt: &HostRuntime) -> anyhow::Result<()> {
-    let Ok(mut dictionary) = begin::<S>(rt.alloc(), 4) else {
-        return Ok(());
-    };
-    println!(rt; "looking up over {}", S::NAME)?;
-    for text in ["{{{|}|}|}", "{{|}|{|}}"] {
-        show_read(rt, &mut dictionary, text, text.as_bytes())?;
+// Looks the texts up among four nodes.
+struct LookUps;
+
+impl Demo for LookUps {
+    fn over<S: Shown>(&self, rt: &HostRuntime) -> anyhow::Result<()> {
+        let Ok(mut dictionary) = begin::<S>(rt.alloc(), 4) else {
+            return Ok(());
+        };
+        println!(rt; "looking up over {}", S::NAME)?;
+        for text in ["{{{|}|}|}", "{{|}|{|}}"] {
+            show_read(rt, &mut dictionary, text, text.as_bytes())?;
+        }
+        let frozen = dictionary.freeze();
+        for text in LOOKED_UP {
+            show_look_up(rt, &frozen, text, text.as_bytes())?;
+        }
+        for (name, depth) in [("97 deep", 97), ("96 deep", 96)] {
+            show_look_up(rt, &frozen, name, number(rt, depth)?.as_bytes())?;
+        }
+        for (name, count) in [("16 options", 16), ("17 options", 17)] {
+            show_look_up(rt, &frozen, name, zeros(rt, count)?.as_bytes())?;
+        }
+        Ok(())
     }
-    let frozen = dictionary.freeze();
-    for text in LOOKED_UP {
-        show_look_up(rt, &frozen, text, text.as_bytes())?;
-    }
-    for (name, depth) in [("97 deep", 97), ("96 deep", 96)] {
-        show_look_up(rt, &frozen, name, number(rt, depth)?.as_bytes())?;
-    }
-    for (name, count) in [("16 options", 16), ("17 options", 17)] {
-        show_look_up(rt, &frozen, name, zeros(rt, count)?.as_bytes())?;
-    }
-    Ok(())
 }
 
 fn show_read<S: Store>(

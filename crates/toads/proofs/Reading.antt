@@ -1,14 +1,16 @@
 -- The text of a strip: its first wrong character, and its code.
 -- Assumes nothing.
-use Rattle.std.proofs.Common.{◌≡◌, ℕ, zero, suc, ◌+◌, ◌*◌, ◌/◌, ◌%◌, ◌^◌, ◌<◌, ◌≤◌, cond, ltb, List, [], ◌∷◌, ◌++◌, map, length, get_or, take, position, Some, None, Option, sym, refl, ap, ◌∙◌, ap₂, inl, inr, pow-suc, arith}
+use Rattle.std.proofs.Common.{◌≡◌, ℕ, zero, suc, ◌+◌, ◌*◌, ◌/◌, ◌%◌, ◌^◌, ◌<◌, ◌≤◌, cond, ltb, List, [], ◌∷◌, ◌++◌, map, length, is_some, get_or, take, position, Some, None, Ok, Option, sym, refl, ap, ◌∙◌, ap₂, inl, inr, pow-suc, arith}
 use native.Mathlib.Nat.{pow-le-pow_right}
 use Rattle.std.specs.List.{range_with_len}
-use Rattle.std.specs.Option.{option_map}
+use Rattle.std.specs.Option.{option_map, ok_or}
+use Rattle.std.specs.Result.{IsOk}
 use Rattle.std.proofs.lemmas.List.{take_more, length-take}
 use Rattle.std.proofs.lemmas.Bool.{cases_lt, and_from, lt-ltb, le-ltb}
 use Rattle.bits.specs.Digits.{digit}
 use Rattle.bits.proofs.Digits.{digit_first, digit_next}
-use Rattle.toads.specs.Cells.{Cell, Empty, Toad, Frog, cell_of}
+use Rattle.toads.specs.declared.cell.NoCell.{NoCell}
+use Rattle.toads.specs.Cells.{Cell, Empty, Toad, Frog, cell_of, char_read, digit_of}
 use Rattle.toads.specs.Strips.{no_cell, first_wrong, digit_or_none, char_digit, code_of}
 use Rattle.toads.specs.Laws.{CodeReads}
 use Rattle.toads.specs.Moves.{every_from}
@@ -29,6 +31,26 @@ first_wrong_is (c ∷ cs) = go (cell_of c) refl (first_wrong_is cs)
     go : (o : Option Cell) → cell_of c ≡ o → position no_cell cs ≡ first_wrong cs → position no_cell (c ∷ cs) ≡ first_wrong (c ∷ cs)
     go None e rest = rw (e, lt-ltb 0 (suc (length cs)) (omega arith))
     go (Some x) e rest = rw e (place_later _ (length cs) ∙ ap (option_map suc) rest)
+
+-- no character of a text is wrong: not the first, and none of the rest
+first : (o : Option Cell) (rest : Option ℕ) → cond (is_some o) (option_map suc rest) (Some 0) ≡ None → IsOk (ok_or {E = NoCell} o (record {})) × (rest ≡ None)
+first None rest none = cc
+first (Some x) None none = (refl, refl)
+first (Some x) (Some i) none = cc
+
+-- each character of a text with no wrong one is read as a cell
+pub cell_there : (cs : List ℕ) (i : ℕ) → i < length cs → first_wrong cs ≡ None → IsOk (char_read (get_or cs i 0))
+cell_there [] i h none = absurd (omega arith)
+cell_there (c ∷ cs) zero h none = (first (cell_of c) (first_wrong cs) none).0
+cell_there (c ∷ cs) (suc i) h none = cell_there cs i (omega arith) (first (cell_of c) (first_wrong cs) none).1
+
+-- and a character that is read as a cell has its digit
+pub digit_is : (c : ℕ) (x : Cell) → char_read c ≡ Ok x → char_digit c ≡ digit_of x
+digit_is c x = of (cell_of c)
+  where
+    of : (o : Option Cell) → ok_or {E = NoCell} o (record {}) ≡ Ok x → digit_or_none o ≡ digit_of x
+    of None e = cc
+    of (Some y) e = cc
 
 -- a character's digit is below 3
 digit_below : (o : Option Cell) → digit_or_none o < 3

@@ -6,7 +6,7 @@ mod masks;
 mod pairs;
 mod rules;
 
-#[derive(Clone, Copy)]
+#[derive(Clone, Copy, Debug, PartialEq, Eq)]
 pub struct Strip {
     cells: u32,
     ghost some: { 1 ≤ cells },

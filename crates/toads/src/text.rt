@@ -1,7 +1,7 @@
 // A position read from a strip's characters.
 ghost use Rattle.std.specs.Prelude.{◌≡◌, ◌≤◌, length, position};
 ghost use Rattle.toads.specs.Laws.{CodeReads};
-ghost use Rattle.toads.specs.Strips.{Read, char_digit, code_of, no_cell, text_fault_number};
+ghost use Rattle.toads.specs.Strips.{Read, code_of, first_wrong, no_cell, text_fault_number};
 ghost use Rattle.toads.specs.declared.text.TextFault.TheVariants.{Size};
 
 use crate::cell::Cell;
@@ -38,7 +38,7 @@ impl From<BoardFault> for TextFault {
 }
 
 // A strip and the code of a position on it.
-#[derive(Clone, Copy)]
+#[derive(Clone, Copy, Debug, PartialEq, Eq)]
 pub struct Position {
     pub strip: Strip,
     pub code: u64,
@@ -69,19 +69,14 @@ fn wrong_character(text: &[u8]) -> Option<usize>
 
 // The code of at most 12 cells, the first of them the lowest digit.
 fn code_of(text: &[u8]) -> u64
-    requires { length text.now ≤ 12 }
+    requires few { length text.now ≤ 12 }
+    requires cells { first_wrong text.now ≡ None }
     ensures { result ≡ code_of text.now }
 {
     let mut code = 0;
     for (place, byte) in text.iter().enumerate() {
-        code += digit_of(*byte) << (2 * place);
+        let cell = Cell::try_from(char::from(*byte)).unwrap();
+        code += u64::from(cell) << (2 * place);
     }
     code
-}
-
-// The digit of a character's cell, 0 where it stands for none.
-fn digit_of(byte: u8) -> u64
-    ensures { result ≡ char_digit byte }
-{
-    Cell::try_from(char::from(byte)).map_or(0, u64::from)
 }

@@ -19,7 +19,7 @@ impl ValueFault {
     {
         match self {
             ValueFault::Illegal => 4,
-            ValueFault::Position { code: _, fault } => fault.number(),
+            ValueFault::Position { fault, .. } => fault.number(),
         }
     }
 }

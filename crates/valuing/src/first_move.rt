@@ -32,20 +32,16 @@ fn is_won(side: Side, outcome: Outcome) -> bool
 fn wins<S: Store>(dictionary: &Dictionary<S>, side: Side, number: u16) -> bool
     ensures { number < length dictionary.now.rows → result ≡ as_good side (node dictionary.now.rows number) 𝟎 }
 {
-    match dictionary.outcome(number) {
-        Ok(outcome) => is_won(side, outcome),
-        Err(_) => false,
-    }
+    dictionary
+        .outcome(number)
+        .is_ok_and(|outcome| is_won(side, outcome))
 }
 
 // The move found before, or else this one if it wins.
 fn earlier(found: Option<usize>, index: usize, wins: bool) -> Option<usize>
     ensures { result ≡ earlier_of found index wins }
 {
-    match (found, wins) {
-        (None, true) => Some(index),
-        _ => found,
-    }
+    found.or(wins.then_some(index))
 }
 
 // The index of the earliest first move that wins for the side, if there is one. All of the side's successors are valued.

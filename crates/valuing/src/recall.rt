@@ -18,7 +18,7 @@ impl Recall for Memory {
 }
 
 // No memory: every position is valued as often as play comes to it.
-#[derive(Clone, Copy)]
+#[derive(Clone, Copy, Debug, Default, PartialEq, Eq)]
 pub struct Nothing;
 
 impl Notes for Nothing {

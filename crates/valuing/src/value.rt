@@ -33,7 +33,7 @@ pub(crate) fn enter<S: Store, M: Recall, R: Ruleset>(
     if let Some(known) = memory.recall(code) {
         return Ok(known);
     }
-    let mut moves = Pair::empty();
+    let mut moves = Pair::default();
     enter_side(dictionary, memory, board, Side::Left, code, &mut moves)?;
     enter_side(dictionary, memory, board, Side::Right, code, &mut moves)?;
     let node = dictionary
@@ -60,7 +60,7 @@ fn enter_side<S: Store, M: Recall, R: Ruleset>(
 {
     for next in successors_of(board, side, code) {
         let node = enter(dictionary, memory, board, next)?;
-        moves.insert(side, node as usize);
+        moves.insert(side, usize::from(node));
     }
     Ok(())
 }

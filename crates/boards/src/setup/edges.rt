@@ -1,17 +1,12 @@
 // The edges of a Hackenbush picture, read byte by byte.
 ghost use Rattle.std.specs.Prelude.{◌≡◌};
-ghost use Rattle.boards.specs.EdgesRead.{colour_read, dash_read, digit_read, edge_step, edges_read, no_edges};
+ghost use Rattle.boards.specs.EdgesRead.{colour_read, dash_read, digit_read, edge_step, edges_read};
 
 use arrayvec::ArrayVec;
-use hackenbush::edge::{Colour, Edge};
+use hackenbush::edge::{Colour, Edge, LAST_VERTEX};
+use hackenbush::picture::MOST_EDGES;
 
-// A picture has at most this many edges.
-const MOST_EDGES: usize = 24;
-
-// Vertices go from 0 to this.
-const LAST_VERTEX: u8 = 15;
-
-#[derive(Drop)]
+#[derive(Debug, Default, Drop, PartialEq, Eq)]
 pub struct Edges {
     // the first vertex of the edge that is being read
     from: u8,
@@ -28,17 +23,7 @@ impl Edges {
     {
         items
             .iter()
-            .try_fold(Edges::none(), |edges, byte| edges.step(*byte))
-    }
-
-    fn none() -> Edges
-        ensures { result ≡ no_edges }
-    {
-        Edges {
-            from: 0,
-            number: 0,
-            edges: ArrayVec::new(),
-        }
+            .try_fold(Edges::default(), |edges, byte| edges.step(*byte))
     }
 
     fn step(self, byte: u8) -> Option<Edges>
@@ -60,10 +45,7 @@ impl Edges {
         ensures { result ≡ digit_read self digit }
     {
         let number = self.number.checked_mul(10)?.checked_add(digit)?;
-        if number > LAST_VERTEX {
-            return None;
-        }
-        Some(Edges { number, ..self })
+        (number <= LAST_VERTEX).then_some(Edges { number, ..self })
     }
 
     // The end of an edge's first vertex.

@@ -2,11 +2,10 @@
 ghost use Rattle.std.specs.Prelude.{◌≡◌};
 ghost use Rattle.boards.specs.RowsRead.{closed, ended, put, row_length, row_step, rows_read};
 
-// A board has at most this many squares.
-const MOST_SQUARES: usize = 30;
+use domineering::board::MOST_CELLS;
 
 // Rows of one length, read to their end.
-#[derive(Clone, Copy)]
+#[derive(Clone, Copy, Debug, PartialEq, Eq)]
 pub struct Rows {
     // how many squares each row has
     pub columns: usize,
@@ -21,19 +20,15 @@ impl Rows {
     pub fn read(items: &[u8]) -> Option<Rows>
         ensures { result ≡ rows_read items.now }
     {
-        let none = Begun {
-            columns: None,
-            start: 0,
-            squares: 0,
-            code: 0,
-        };
-        let rows = items.iter().try_fold(none, |rows, byte| rows.step(*byte))?;
-        rows.close()
+        items
+            .iter()
+            .try_fold(Begun::default(), |rows, byte| rows.step(*byte))?
+            .close()
     }
 }
 
 // Rows that are being read.
-#[derive(Clone, Copy)]
+#[derive(Clone, Copy, Debug, Default, PartialEq, Eq)]
 struct Begun {
     // how many squares each row has that has ended, once one has
     columns: Option<usize>,
@@ -61,7 +56,7 @@ impl Begun {
     fn put(self, bit: u8) -> Option<Begun>
         ensures { result ≡ put self bit }
     {
-        if self.squares >= MOST_SQUARES {
+        if self.squares >= MOST_CELLS {
             return None;
         }
         Some(Begun {
@@ -97,13 +92,8 @@ impl Begun {
     fn length(self) -> Option<usize>
         ensures { result ≡ row_length self }
     {
-        if self.squares <= self.start {
-            return None;
-        }
-        let length = self.squares - self.start;
-        match self.columns {
-            Some(columns) if columns != length => None,
-            _ => Some(length),
-        }
+        let length = self.squares.checked_sub(self.start)?;
+        let as_long = self.columns.is_none_or(|columns| columns == length);
+        (length > 0 && as_long).then_some(length)
     }
 }

@@ -4,7 +4,7 @@ ghost use Rattle.bits.specs.Bits.{bit};
 ghost use Rattle.domineering.specs.Domineering.{goes_on};
 ghost use Rattle.domineering.specs.Making.{Made};
 
-use super::Board;
+use super::{Board, MOST_CELLS};
 use rulesets::fault::BoardFault;
 
 impl Board {
@@ -13,7 +13,7 @@ impl Board {
         ensures { Made rows columns result }
     {
         match rows.checked_mul(columns) {
-            Some(cells @ 1..=30) => {
+            Some(cells @ 1..=MOST_CELLS) => {
                 let full = (1 << cells) - 1;
                 let inner = inner_cells(cells, columns);
                 Ok(Board {
@@ -33,7 +33,7 @@ fn inner_cells(cells: usize, columns: usize) -> u64
     requires { (cells ≤ 30) × (1 ≤ columns) }
     ensures { (i : ℕ) → bit result i ≡ (nat_lt i cells && goes_on columns i) }
 {
-    let mut inner: u64 = 0;
+    let mut inner = 0;
     for cell in 0..cells {
         if cell % columns + 1 < columns {
             inner |= 1 << cell;

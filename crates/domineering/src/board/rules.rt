@@ -6,7 +6,7 @@ ghost use Rattle.domineering.specs.Told.{Told};
 ghost use Rattle.domineering.specs.Making.{board_rules};
 ghost use Rattle.domineering.specs.Lawful.{domineering_lawful};
 
-use super::Board;
+use super::{Board, MOST_CELLS};
 use bits::{count_bits, nth_bit};
 use games::side::Side;
 use rulesets::ruleset::Ruleset;
@@ -52,11 +52,12 @@ impl Ruleset for Board {
     }
 
     fn width(&self) -> usize {
-        30
+        MOST_CELLS
     }
 
+    // Every domino covers two cells.
     fn depth(&self) -> usize {
-        15
+        MOST_CELLS / 2
     }
 
     fn is_legal(&self, code: u64) -> bool {

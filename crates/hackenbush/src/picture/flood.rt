@@ -13,7 +13,7 @@ use crate::edge::Edge;
 const GROUND: u64 = 1;
 
 // How far a flood has come, as sets of bits.
-#[derive(Clone, Copy)]
+#[derive(Clone, Copy, Debug, PartialEq, Eq)]
 struct Flood {
     // the vertices that it has reached
     wet: u64,
@@ -57,10 +57,7 @@ impl Picture {
             flood = self.look(flood, place);
             // every vertex is reached, so no edge is dry
             if flood.wet == self.span {
-                return Flood {
-                    wet: flood.wet,
-                    dry: 0,
-                };
+                return Flood { dry: 0, ..flood };
             }
         }
         flood

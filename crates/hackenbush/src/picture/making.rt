@@ -4,7 +4,7 @@ ghost use Rattle.bits.specs.Bits.{bit};
 ghost use Rattle.hackenbush.specs.Hackenbush.{near, painted, touched};
 ghost use Rattle.hackenbush.specs.Pictures.{Made};
 
-use super::Picture;
+use super::{MOST_EDGES, Picture};
 use crate::edge::Edge;
 use games::side::Side;
 use rulesets::fault::BoardFault;
@@ -14,7 +14,7 @@ impl Picture {
     pub fn new(edges: &[Edge]) -> Result<Picture, BoardFault>
         ensures { Made edges.now result }
     {
-        if edges.is_empty() || edges.len() > 24 || !are_near(edges) {
+        if edges.is_empty() || edges.len() > MOST_EDGES || !are_near(edges) {
             return Err(BoardFault::Size);
         }
         Ok(Picture {
@@ -35,12 +35,12 @@ fn are_near(edges: &[Edge]) -> bool
 }
 
 // The edges, filled up to 24 with edges that no count reaches.
-fn padded(edges: &[Edge]) -> [Edge; 24]
+fn padded(edges: &[Edge]) -> [Edge; MOST_EDGES]
     requires { length edges.now ≤ 24 }
     ensures all { take (length edges.now) result ≡ edges.now }
     ensures long { length result ≡ 24 }
 {
-    let mut all = [Edge::default(); 24];
+    let mut all = [Edge::default(); MOST_EDGES];
     all[..edges.len()].copy_from_slice(edges);
     all
 }

@@ -5,7 +5,7 @@ ghost use Rattle.hackenbush.specs.Hackenbush.{hackenbush, painted};
 ghost use Rattle.hackenbush.specs.Pictures.{edges_of};
 ghost use Rattle.hackenbush.specs.Lawful;
 
-use super::Picture;
+use super::{MOST_EDGES, Picture};
 use bits::{count_bits, nth_bit};
 use games::side::Side;
 use rulesets::ruleset::Ruleset;
@@ -32,11 +32,11 @@ impl Ruleset for Picture {
     }
 
     fn width(&self) -> usize {
-        24
+        MOST_EDGES
     }
 
     fn depth(&self) -> usize {
-        24
+        MOST_EDGES
     }
 
     // Nothing of a legal code falls; a code from the limit on has bits that no edge keeps up.

@@ -40,7 +40,7 @@ impl Store for HashTable {
             if self.list.same(node, row) {
                 found = Some(node);
             }
-            next = self.lowers[node as usize];
+            next = self.lowers[usize::from(node)];
         }
         found
     }

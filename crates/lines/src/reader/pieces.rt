@@ -4,9 +4,9 @@ ghost use Rattle.lines.specs.Machine.{Symbol, just, side, text, weight};
 ghost use Rattle.lines.specs.Reading.{ClosedRead, PairRead, Reads, SideRead, TextRead};
 
 use super::Reader;
-use crate::nest::Nest;
 use crate::question::Part;
 use calls::fault::TextFault;
+use calls::nest::Nest;
 use games::side::Side;
 
 // What is read as a whole: a side, a board, a subject, or the text of a form.

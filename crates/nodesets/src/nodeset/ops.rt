@@ -3,27 +3,31 @@ ghost use Rattle.std.specs.Prelude.{◌≡◌, ℕ, ◌%◌, ◌<◌, true, fals
 ghost use Rattle.bits.specs.Bits.{bit};
 ghost use Rattle.nodesets.specs.Sets.{Lowest, Meet, Next, has, word};
 
-use super::{NODES, NodeSet};
+use super::{NodeSet, WORDS};
+use games::bounds::MOST_NODES;
 use std::array;
 
-impl NodeSet {
-    pub fn empty() -> NodeSet
-        ensures { (j : ℕ) → has result j ≡ false }
-    {
-        NodeSet { words: [0; 6] }
-    }
+impl Default for NodeSet {
+    ghost is_default = { λ s. (j : ℕ) → has s j ≡ false };
 
+    // The set of no nodes.
+    fn default() -> NodeSet {
+        NodeSet { words: [0; WORDS] }
+    }
+}
+
+impl NodeSet {
     pub fn contains(&self, node: usize) -> bool
         ensures { result ≡ has self.now node }
     {
-        node < NODES && (self.words[node / 64] >> (node % 64)) % 2 == 1
+        node < MOST_NODES && (self.words[node / 64] >> (node % 64)) % 2 == 1
     }
 
     // The node goes in; a number from 384 on cannot.
     pub fn insert(&mut self, node: usize)
         ensures { (j : ℕ) → has self.new j ≡ ((j == node && nat_lt j 384) || has self.old j) }
     {
-        if node < NODES {
+        if node < MOST_NODES {
             self.words[node / 64] |= 1 << (node % 64);
         }
     }
@@ -40,7 +44,7 @@ impl NodeSet {
     pub fn remove(&mut self, node: usize)
         ensures { (j : ℕ) → has self.new j ≡ (has self.old j && not (j == node)) }
     {
-        if node < NODES {
+        if node < MOST_NODES {
             self.words[node / 64] &= !(1 << (node % 64));
         }
     }
@@ -72,7 +76,10 @@ impl NodeSet {
     pub fn meets(&self, other: &NodeSet) -> bool
         ensures { Decides result (Meet (has self.now) (has other.now)) }
     {
-        self.common(other).is_some()
+        self.words
+            .iter()
+            .zip(&other.words)
+            .any(|(own, theirs)| own & theirs != 0)
     }
 
     // The lowest node that is in both sets.
@@ -109,7 +116,7 @@ impl NodeSet {
         ensures { Next (λ k. cond (has self.now k) (not (bit mask (k % 64))) (bit mask (k % 64))) from result }
     {
         let mut k = from;
-        while k < NODES {
+        while k < MOST_NODES {
             let rest = (self.words[k / 64] ^ mask) >> (k % 64);
             if rest != 0 {
                 return Some(k + rest.trailing_zeros() as usize);

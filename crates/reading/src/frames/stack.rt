@@ -5,7 +5,7 @@ ghost use Rattle.games.proofs.Reader.{Bracket, finish};
 ghost use Rattle.games.specs.Form.{Form};
 ghost use Rattle.games.specs.Numbered.{Lists};
 ghost use Rattle.reading.specs.declared.frames.Frame.{Frame as FrameOf};
-ghost use Rattle.reading.specs.Held.{Fresh, Holds, Popped, Turned, stack_of, top_side};
+ghost use Rattle.reading.specs.Held.{Fresh, Holds, Popped, Turned, stack_of};
 
 use super::{Frame, Frames};
 use crate::options::Options;
@@ -19,7 +19,7 @@ impl<T: Options> Default for Frame<T> {
     fn default() -> Frame<T> {
         Frame {
             side: Side::Left,
-            options: T::none(),
+            options: T::default(),
         }
     }
 }
@@ -31,20 +31,6 @@ impl<T: Options> Frames<T> {
         Frames {
             items: ArrayVec::new(),
         }
-    }
-
-    // How many brackets are open.
-    pub(crate) fn depth(&self) -> usize
-        ensures { result ≡ length (stack_of self.now) }
-    {
-        self.items.len()
-    }
-
-    // The side whose options are being read in the innermost bracket, if one is open.
-    pub(crate) fn side(&self) -> Option<Side>
-        ensures { result ≡ top_side (stack_of self.now) }
-    {
-        Some(self.items.last()?.side)
     }
 
     // A bracket more.
@@ -59,11 +45,9 @@ impl<T: Options> Frames<T> {
     pub(crate) fn bar(&mut self)
         ensures { Turned (stack_of self.old) (stack_of self.new) }
     {
-        if let Some(frame) = self.items.pop() {
-            self.items.push(Frame {
-                side: Side::Right,
-                options: frame.options,
-            });
+        let top = self.items.len().saturating_sub(1);
+        if let Some(frame) = self.items.get_mut(top) {
+            frame.side = Side::Right;
         }
     }
 
@@ -78,13 +62,9 @@ impl<T: Options> Frames<T> {
     pub(crate) fn put(&mut self, node: u16)
         ensures { node < 384 → (g : Form) (bs : List Bracket) (ls : List Lists) → Holds T.Options.keeps (stack_of self.old) bs ls → Holds T.Options.keeps (stack_of self.new) (brackets (finish g bs)) (put_outside node bs ls) }
     {
-        if let Some(frame) = self.items.pop() {
-            let mut options = frame.options;
-            options.put(frame.side, node);
-            self.items.push(Frame {
-                side: frame.side,
-                options,
-            });
+        let top = self.items.len().saturating_sub(1);
+        if let Some(frame) = self.items.get_mut(top) {
+            frame.options.put(frame.side, node);
         }
     }
 }

@@ -9,8 +9,8 @@ ghost use Rattle.sealing.specs.Views.{links};
 
 use super::Nodes;
 use crate::row::Row;
+use games::bounds::MOST_NODES;
 use games::side::Side;
-use nodesets::nodeset::NODES;
 use nodesets::pair::Pair;
 use std::alloc::{AllocError, Global};
 
@@ -19,7 +19,7 @@ impl Nodes {
     pub fn new(heap: Global) -> Result<Nodes, AllocError>
         ensures { IfOk result (λ t. links t ≡ []) }
     {
-        let rows = Vec::with_capacity(heap, NODES)?;
+        let rows = Vec::with_capacity(heap, MOST_NODES)?;
         Ok(Nodes { rows })
     }
 

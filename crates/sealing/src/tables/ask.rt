@@ -1,5 +1,6 @@
 // What the tables answer: how many nodes there are, how two compare, and what two sets of them seal to.
-ghost use Rattle.std.specs.Prelude.{◌≡◌, ◌&&◌, ◌++◌, length, take, drop, Decides, nat_lt};
+ghost use Rattle.std.specs.Prelude.{◌≡◌, ◌≤◌, ◌&&◌, ◌++◌, length, take, drop, Decides, nat_lt};
+ghost use Rattle.std.specs.Option.{SomeIff, option_map};
 ghost use Rattle.games.specs.Numbered.{Lists};
 ghost use Rattle.games.specs.Tests.{as_good};
 ghost use Rattle.nodesets.specs.Pairs.{by};
@@ -7,8 +8,10 @@ ghost use Rattle.nodesets.specs.Sets.{has};
 ghost use Rattle.sealing.specs.Seals.{CanonicalRow, Narrow, SealsTo, Sound, count, listed, node_of, row_of};
 
 use super::Tables;
-use crate::order::{count_listed, write_listed};
+use crate::order::{count_listed, few_listed, write_listed};
 use crate::seal::{SealFault, Sealed};
+use arrayvec::ArrayVec;
+use games::bounds::MOST_OPTIONS;
 use games::side::Side;
 use nodesets::nodeset::NodeSet;
 use nodesets::pair::Pair;
@@ -37,12 +40,19 @@ impl Tables {
         write_listed(&self.listing, set, buffer)
     }
 
+    // The nodes of the set in listing order, as the options of a row; none where there are more than 16.
+    pub fn options(&self, set: &NodeSet) -> Option<ArrayVec<u16, MOST_OPTIONS>>
+        ensures { SomeIff (option_map (λ nodes. nodes.items) result) (length (listed self.now (has set.now)) ≤ 16) (listed self.now (has set.now)) }
+    {
+        few_listed(&self.listing, set)
+    }
+
     // Whether no set of the pair has more than 16 nodes.
     fn is_narrow(&self, form: &Pair) -> bool
         ensures { Decides result (Narrow (row_of self.now (by form.now))) }
     {
-        count_listed(&self.listing, &form.left) <= 16
-            && count_listed(&self.listing, &form.right) <= 16
+        count_listed(&self.listing, &form.left) <= MOST_OPTIONS
+            && count_listed(&self.listing, &form.right) <= MOST_OPTIONS
     }
 
     // What the two sets seal to. Nothing is added.

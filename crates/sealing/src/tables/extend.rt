@@ -7,7 +7,7 @@ ghost use Rattle.sealing.specs.Seals.{Extended, Fresh, count, form_of, row_of, r
 use super::Tables;
 use crate::nodes::Nodes;
 use crate::seal::Sealed;
-use nodesets::nodeset::NODES;
+use games::bounds::MOST_NODES;
 use nodesets::pair::Pair;
 use std::alloc::{AllocError, Global};
 
@@ -17,7 +17,7 @@ impl Tables {
         ensures { IfOk result (λ t. rows_of t ≡ []) }
     {
         let nodes = Nodes::new(heap)?;
-        let listing = Vec::with_capacity(heap, NODES)?;
+        let listing = Vec::with_capacity(heap, MOST_NODES)?;
         Ok(Tables { nodes, listing })
     }
 
@@ -46,7 +46,7 @@ impl Tables {
             return None;
         };
         let number = self.nodes.count();
-        if number == NODES {
+        if number == MOST_NODES {
             return None;
         }
         self.append(&form);

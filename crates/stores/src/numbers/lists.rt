@@ -6,17 +6,19 @@ ghost use Rattle.stores.specs.Reading.{numbers_of};
 
 use super::Numbers;
 
-impl<const MOST: usize> Numbers<MOST> {
+impl<const MOST: usize> Default for Numbers<MOST> {
+    ghost is_default = { λ n. numbers_of n ≡ [] };
+
     // No numbers.
-    pub fn none() -> Numbers<MOST>
-        ensures { numbers_of result ≡ [] }
-    {
+    fn default() -> Numbers<MOST> {
         Numbers {
             items: [0; MOST],
             count: 0,
         }
     }
+}
 
+impl<const MOST: usize> Numbers<MOST> {
     // The numbers of a list, unless there are more than `MOST`.
     pub fn new(numbers: &[u16]) -> Option<Numbers<MOST>>
         ensures { option_map numbers_of result ≡ short MOST numbers.now }
@@ -24,7 +26,7 @@ impl<const MOST: usize> Numbers<MOST> {
         if numbers.len() > MOST {
             return None;
         }
-        let mut kept = Numbers::none();
+        let mut kept = Numbers::default();
         for number in numbers {
             kept.push(*number);
         }

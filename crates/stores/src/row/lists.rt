@@ -2,7 +2,7 @@
 ghost use Rattle.std.specs.Prelude.{◌≡◌, ◌≤◌, length};
 ghost use Rattle.std.specs.Option.{option_map};
 ghost use Rattle.games.specs.Numbered.{list_of};
-ghost use Rattle.stores.specs.Rows.{all_below, bare, names_below, row_of_lists};
+ghost use Rattle.stores.specs.Rows.{all_below, names_below, row_of_lists};
 ghost use Rattle.stores.specs.Reading.{lists_of};
 
 use super::Row;
@@ -17,16 +17,6 @@ impl Row {
         let left = Numbers::new(left)?;
         let right = Numbers::new(right)?;
         Some(Row { left, right })
-    }
-
-    // The row with nothing on either side.
-    pub(crate) fn bare() -> Row
-        ensures { lists_of result ≡ bare }
-    {
-        Row {
-            left: Numbers::none(),
-            right: Numbers::none(),
-        }
     }
 
     // The list of a side.

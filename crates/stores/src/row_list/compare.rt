@@ -14,7 +14,7 @@ impl RowList {
     pub fn same(&self, node: u16, row: &Row) -> bool
         ensures { result ≡ same_lists (row_at (rows_in self.now) node) (lists_of row.now) }
     {
-        self.rows.get(node as usize).unwrap_or(&Row::bare()) == row
+        self.rows.get(usize::from(node)).unwrap_or(&Row::default()) == row
     }
 
     // Whether the row of `node` is earlier than another or later, by their Left lists and then by their Right lists.
@@ -22,8 +22,8 @@ impl RowList {
         ensures { result ≡ row_order (row_at (rows_in self.now) node) (lists_of row.now) }
     {
         self.rows
-            .get(node as usize)
-            .unwrap_or(&Row::bare())
+            .get(usize::from(node))
+            .unwrap_or(&Row::default())
             .cmp(row)
     }
 }

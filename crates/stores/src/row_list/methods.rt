@@ -6,9 +6,10 @@ ghost use Rattle.stores.specs.Kept.{room_of, rows_in};
 ghost use Rattle.stores.specs.Reading.{lists_of};
 ghost use Rattle.stores.specs.Rows.{Made, append_answer, append_rows, row_at};
 
-use super::{MOST_ROWS, RowList};
+use super::RowList;
 use crate::fault::{MakeFault, StoreFault};
 use crate::row::Row;
+use games::bounds::MOST_NODES;
 use games::side::Side;
 use std::alloc::Global;
 
@@ -17,7 +18,7 @@ impl RowList {
     pub fn new(heap: Global, capacity: usize) -> Result<RowList, MakeFault>
         ensures { Made rows_in room_of capacity result }
     {
-        if capacity < 1 || capacity > MOST_ROWS {
+        if capacity < 1 || capacity > MOST_NODES {
             return Err(MakeFault::Capacity);
         }
         let rows = Vec::with_capacity(heap, capacity)?;
@@ -42,7 +43,7 @@ impl RowList {
     pub fn list(&self, side: Side, node: u16) -> &[u16]
         ensures { result.now ≡ list_of side (row_at (rows_in self.now) node) }
     {
-        match self.rows.get(node as usize) {
+        match self.rows.get(usize::from(node)) {
             Some(row) => row.list(side),
             None => &[],
         }

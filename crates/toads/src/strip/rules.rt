@@ -15,16 +15,15 @@ use rulesets::ruleset::Ruleset;
 
 impl Strip {
     // A strip of 1 to 12 cells.
+    #[tactic(auto, using(crate::specs::LawsLemmas::move_reads))]
     pub fn new(cells: usize) -> Result<Strip, BoardFault>
         ensures made { Made cells result }
         ensures moves { MoveReads cells }
     {
-        if cells < 1 || cells > 12 {
-            return Err(BoardFault::Size);
+        match u32::try_from(cells) {
+            Ok(cells @ 1..=12) => Ok(Strip { cells }),
+            _ => Err(BoardFault::Size),
         }
-        Ok(Strip {
-            cells: cells as u32,
-        })
     }
 
     // What the cells hold, when the code is legal.

@@ -18,10 +18,11 @@ loop-node-preserved c =
     let xs : List ℕ = filter p (take i ks) in
     let e : c.loop-node.n ≡ length xs = c.loop-node.invariant.0 in
     let was : c.loop-node.buffer ≡ written b xs = c.loop-node.invariant.2 in
+    let is : c.contains.result ≡ p (get_or ks i 0) = rw c.from.ensures at c.contains.ensures in
     let same : length c.loop-node.buffer ≡ length b = search rules in
     elim c.if-contains.branch [
       | then-contains w ↦
-          let t : p (get_or ks i 0) ≡ true = sym c.contains.ensures ∙ w.if-contains.true in
+          let t : p (get_or ks i 0) ≡ true = sym is ∙ w.if-contains.true in
           let next = kept_with p ks i c.loop-node-test.true t in (
             w.n-is ∙ ap (λ n. n + 1) e ∙ sym (count_with p ks i c.loop-node-test.true t),
             omega (arith, w.n-is, c.loop-node.invariant.1),
@@ -32,7 +33,7 @@ loop-node-preserved c =
             ],
           )
       | else-contains w ↦
-          let next = kept_without p ks i c.loop-node-test.true (sym c.contains.ensures ∙ w.if-contains.false) in
+          let next = kept_without p ks i c.loop-node-test.true (sym is ∙ w.if-contains.false) in
           (w.n-is ∙ e ∙ ap length (sym next), omega (arith, w.n-is, c.loop-node.invariant.1), w.buffer-is ∙ was ∙ ap (written b) (sym next))
     ]
 

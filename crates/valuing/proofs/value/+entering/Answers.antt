@@ -29,7 +29,7 @@ enter-returns-in_err-enter_side-clause-entered g t c h =
     let l = g.met.R.Ruleset.lawful c.args.board.now in
     let d₀ = c.args.dictionary.now in
     let e : c.from_residual.result ≡ Err c.in_err-enter_side.field-0.0 = search rules in
-    subst (λ y. Entered R d₀.room d₀.rows c.args.code (answer_at y) c.enter_side.new.dictionary.rows) (sym e) (left_stops R l d₀.room c.args.code (c.in_err-enter_side.ensures.turned h (c.empty-moves.ensures Left)))
+    subst (λ y. Entered R d₀.room d₀.rows c.args.code (answer_at y) c.enter_side.new.dictionary.rows) (sym e) (left_stops R l d₀.room c.args.code (c.in_err-enter_side.ensures.turned h (c.default-moves.ensures Left)))
 
 pub enter-returns-in_err-enter_side-2-clause-entered : goal.enter-returns-in_err-enter_side-2-clause-entered
 enter-returns-in_err-enter_side-2-clause-entered g t c h =
@@ -42,8 +42,8 @@ enter-returns-in_err-enter_side-2-clause-entered g t c h =
     let room₁ : d₁.room ≡ d₀.room = c.enter_side.ensures.room in
     let room₂ : d₂.room ≡ d₀.room = c.enter_side-2.ensures.room ∙ room₁ in
     let sure = c.enter_side.ensures.sure h in
-    let none : (k : ℕ) → by c.enter_side.new.moves Right k ≡ false = λ k. c.enter_side.ensures.theirs k ∙ c.empty-moves.ensures Right k in
-    let lefts : SoFar R d₀.room d₀.rows (R.moves Left c.args.code) (by c.enter_side.new.moves Left) d₁.rows = left_all R l d₀.room c.args.code (c.in_ok-enter_side.ensures.turned h (c.empty-moves.ensures Left)) in
+    let none : (k : ℕ) → by c.enter_side.new.moves Right k ≡ false = λ k. c.enter_side.ensures.theirs k ∙ c.default-moves.ensures Right k in
+    let lefts : SoFar R d₀.room d₀.rows (R.moves Left c.args.code) (by c.enter_side.new.moves Left) d₁.rows = left_all R l d₀.room c.args.code (c.in_ok-enter_side.ensures.turned h (c.default-moves.ensures Left)) in
     let e : c.from_residual-in_err-enter_side-2.result ≡ Err c.in_err-enter_side-2.field-0.0 = search rules in
     subst (λ y. Entered R d₀.room d₀.rows c.args.code (answer_at y) d₂.rows) (sym e)
     (right_stops R l d₀.room c.args.code lefts (subst (λ z. Turned R z d₁.rows Right c.args.code (o Right) d₂.rows (Err c.in_err-enter_side-2.field-0.0)) room₁ (c.in_err-enter_side-2.ensures.turned sure none)))
@@ -62,8 +62,8 @@ enter-returns-in_err-node-clause-entered g t c h =
     let room₁ : d₁.room ≡ d₀.room = c.enter_side.ensures.room in
     let room₂ : d₂.room ≡ d₀.room = c.enter_side-2.ensures.room ∙ room₁ in
     let sure = c.enter_side.ensures.sure h in
-    let none : (k : ℕ) → by c.enter_side.new.moves Right k ≡ false = λ k. c.enter_side.ensures.theirs k ∙ c.empty-moves.ensures Right k in
-    let lefts : SoFar R d₀.room d₀.rows (R.moves Left c.args.code) (by c.enter_side.new.moves Left) d₁.rows = left_all R l d₀.room c.args.code (c.in_ok-enter_side.ensures.turned h (c.empty-moves.ensures Left)) in
+    let none : (k : ℕ) → by c.enter_side.new.moves Right k ≡ false = λ k. c.enter_side.ensures.theirs k ∙ c.default-moves.ensures Right k in
+    let lefts : SoFar R d₀.room d₀.rows (R.moves Left c.args.code) (by c.enter_side.new.moves Left) d₁.rows = left_all R l d₀.room c.args.code (c.in_ok-enter_side.ensures.turned h (c.default-moves.ensures Left)) in
     let rights : SoFar R d₀.room d₁.rows (R.moves Right c.args.code) (o Right) d₂.rows = right_all R l d₀.room c.args.code (subst (λ z. Turned R z d₁.rows Right c.args.code (o Right) d₂.rows (Ok tt)) room₁ (c.in_ok-enter_side-2.ensures.turned sure none)) in
     let after = c.seal.new.self in
     let seals : (n : Lists) → ListsOf o n → SealsNumbers d₀.room d₂.rows n (answer_of c.seal.result) after.rows = λ n lists. subst (λ z. SealsNumbers z d₂.rows n (answer_of c.seal.result) after.rows) room₂ (c.seal.ensures.seals n lists) in
@@ -83,8 +83,8 @@ enter-returns-in_err-node-clause-sure g t c h =
     let room₁ : d₁.room ≡ d₀.room = c.enter_side.ensures.room in
     let room₂ : d₂.room ≡ d₀.room = c.enter_side-2.ensures.room ∙ room₁ in
     let sure = c.enter_side.ensures.sure h in
-    let none : (k : ℕ) → by c.enter_side.new.moves Right k ≡ false = λ k. c.enter_side.ensures.theirs k ∙ c.empty-moves.ensures Right k in
-    let lefts : SoFar R d₀.room d₀.rows (R.moves Left c.args.code) (by c.enter_side.new.moves Left) d₁.rows = left_all R l d₀.room c.args.code (c.in_ok-enter_side.ensures.turned h (c.empty-moves.ensures Left)) in
+    let none : (k : ℕ) → by c.enter_side.new.moves Right k ≡ false = λ k. c.enter_side.ensures.theirs k ∙ c.default-moves.ensures Right k in
+    let lefts : SoFar R d₀.room d₀.rows (R.moves Left c.args.code) (by c.enter_side.new.moves Left) d₁.rows = left_all R l d₀.room c.args.code (c.in_ok-enter_side.ensures.turned h (c.default-moves.ensures Left)) in
     let rights : SoFar R d₀.room d₁.rows (R.moves Right c.args.code) (o Right) d₂.rows = right_all R l d₀.room c.args.code (subst (λ z. Turned R z d₁.rows Right c.args.code (o Right) d₂.rows (Ok tt)) room₁ (c.in_ok-enter_side-2.ensures.turned sure none)) in
     let after = c.seal.new.self in
     let seals : (n : Lists) → ListsOf o n → SealsNumbers d₀.room d₂.rows n (answer_of c.seal.result) after.rows = λ n lists. subst (λ z. SealsNumbers z d₂.rows n (answer_of c.seal.result) after.rows) room₂ (c.seal.ensures.seals n lists) in
@@ -102,8 +102,8 @@ enter-returns-clause-entered g t c h =
     let room₁ : d₁.room ≡ d₀.room = c.enter_side.ensures.room in
     let room₂ : d₂.room ≡ d₀.room = c.enter_side-2.ensures.room ∙ room₁ in
     let sure = c.enter_side.ensures.sure h in
-    let none : (k : ℕ) → by c.enter_side.new.moves Right k ≡ false = λ k. c.enter_side.ensures.theirs k ∙ c.empty-moves.ensures Right k in
-    let lefts : SoFar R d₀.room d₀.rows (R.moves Left c.args.code) (by c.enter_side.new.moves Left) d₁.rows = left_all R l d₀.room c.args.code (c.in_ok-enter_side.ensures.turned h (c.empty-moves.ensures Left)) in
+    let none : (k : ℕ) → by c.enter_side.new.moves Right k ≡ false = λ k. c.enter_side.ensures.theirs k ∙ c.default-moves.ensures Right k in
+    let lefts : SoFar R d₀.room d₀.rows (R.moves Left c.args.code) (by c.enter_side.new.moves Left) d₁.rows = left_all R l d₀.room c.args.code (c.in_ok-enter_side.ensures.turned h (c.default-moves.ensures Left)) in
     let rights : SoFar R d₀.room d₁.rows (R.moves Right c.args.code) (o Right) d₂.rows = right_all R l d₀.room c.args.code (subst (λ z. Turned R z d₁.rows Right c.args.code (o Right) d₂.rows (Ok tt)) room₁ (c.in_ok-enter_side-2.ensures.turned sure none)) in
     let after = c.seal.new.self in
     let seals : (n : Lists) → ListsOf o n → SealsNumbers d₀.room d₂.rows n (answer_of c.seal.result) after.rows = λ n lists. subst (λ z. SealsNumbers z d₂.rows n (answer_of c.seal.result) after.rows) room₂ (c.seal.ensures.seals n lists) in
@@ -121,8 +121,8 @@ enter-returns-clause-sure g t c h =
     let room₁ : d₁.room ≡ d₀.room = c.enter_side.ensures.room in
     let room₂ : d₂.room ≡ d₀.room = c.enter_side-2.ensures.room ∙ room₁ in
     let sure = c.enter_side.ensures.sure h in
-    let none : (k : ℕ) → by c.enter_side.new.moves Right k ≡ false = λ k. c.enter_side.ensures.theirs k ∙ c.empty-moves.ensures Right k in
-    let lefts : SoFar R d₀.room d₀.rows (R.moves Left c.args.code) (by c.enter_side.new.moves Left) d₁.rows = left_all R l d₀.room c.args.code (c.in_ok-enter_side.ensures.turned h (c.empty-moves.ensures Left)) in
+    let none : (k : ℕ) → by c.enter_side.new.moves Right k ≡ false = λ k. c.enter_side.ensures.theirs k ∙ c.default-moves.ensures Right k in
+    let lefts : SoFar R d₀.room d₀.rows (R.moves Left c.args.code) (by c.enter_side.new.moves Left) d₁.rows = left_all R l d₀.room c.args.code (c.in_ok-enter_side.ensures.turned h (c.default-moves.ensures Left)) in
     let rights : SoFar R d₀.room d₁.rows (R.moves Right c.args.code) (o Right) d₂.rows = right_all R l d₀.room c.args.code (subst (λ z. Turned R z d₁.rows Right c.args.code (o Right) d₂.rows (Ok tt)) room₁ (c.in_ok-enter_side-2.ensures.turned sure none)) in
     let after = c.seal.new.self in
     let seals : (n : Lists) → ListsOf o n → SealsNumbers d₀.room d₂.rows n (answer_of c.seal.result) after.rows = λ n lists. subst (λ z. SealsNumbers z d₂.rows n (answer_of c.seal.result) after.rows) room₂ (c.seal.ensures.seals n lists) in
@@ -184,7 +184,7 @@ enter_side-loop-next-preserved g t c =
       turn =
           again R l ms i c.in-Some.next c.in_ok-node.node (by c.args.moves.now s) (by c.loop-next.moves s) (by c.insert.new.self s) d₀.room d.room after.room d₀.rows d.rows after.rows
           (Sure R d₀.rows (g.M.Notes.holds c.args.memory.now)) (Sure R d.rows (g.M.Notes.holds c.loop-next.memory)) (Sure R after.rows (g.M.Notes.holds c.enter.new.memory))
-          c.loop-next.invariant.turn at c.in_ok-node.ensures.room c.in_ok-node.ensures.sure c.in_ok-node.ensures.entered c.in_ok-node.ensures.small c.insert.ensures.own;
+          c.loop-next.invariant.turn at c.in_ok-node.ensures.room c.in_ok-node.ensures.sure c.in_ok-node.ensures.entered c.in_ok-node.ensures.small (simp c.from.ensures at c.insert.ensures.own);
       theirs = λ k. c.insert.ensures.theirs k ∙ c.loop-next.invariant.theirs k;
     }
 

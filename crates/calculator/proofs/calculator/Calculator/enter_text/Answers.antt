@@ -1,16 +1,15 @@
 -- A fault in a text is at its own place, and places do not pass the text's end.
-use Rattle.std.proofs.Common.{◌≡◌, ◌+◌, ap, arith}
-use Rattle.calls.specs.Answers.{refused_at}
-use Rattle.reading.specs.Faults.{read_number, read_place}
-use Rattle.calculator.proofs.Places.{reads_bound}
+use Rattle.std.proofs.Common.{◌≡◌, ◌+◌, ◌^◌, ◌<◌, Err, rules}
+use Rattle.reading.specs.Faults.{read_place}
+use Rattle.reading.specs.declared.fault.ReadFault.{ReadFault}
+use Rattle.calculator.specs.declared.fault.CalculatorFault.TheVariants.{Text}
+use Rattle.calculator.proofs.Subjects.{text_refused}
 use Rattle.calculator.proofs.calculator.Calculator.enter_text.Goals as goal
 
-pub returns-in-Err : goal.returns-in-Err
-returns-in-Err g c = record {
-  entered = λ small.
-      let x = c.in-Err.ensures.reads in
-      let b = reads_bound c.args.text.now.bytes.now x.holds in
-      let e : c.saturating_add-place.result ≡ c.args.text.now.place + read_place c.in-Err.fault = omega (arith, c.saturating_add-place.ensures, c.place.ensures) in
-      record { plain = _; entries = x.entries; holds = x.holds; answers = ap (refused_at (read_number c.in-Err.fault)) e };
-  room = c.in-Err.ensures.room;
-}
+pub returns-in_err-node-clause-entered : goal.returns-in_err-node-clause-entered
+returns-in_err-node-clause-entered g c small =
+    let d = c.args.self.now.dictionary in
+    let start = c.args.text.now.place in
+    let (f, was, is) : (f : ReadFault) × (c.read.result ≡ Err f) × (start + read_place f < 2 ^ 64 → c.in_err-node.field-0.0 ≡ Text (start + read_place f) f) = search rules in
+    let e : c.from_residual.result ≡ Err c.in_err-node.field-0.0 = search rules in
+    text_refused d.room d.rows c.read.new.dictionary.rows start c.args.text.now.bytes.now c.read.result f c.in_err-node.field-0.0 c.from_residual.result small c.read.ensures.reads was is e

@@ -8,7 +8,7 @@ pub returns-then-a-count : goal.returns-then-a-count
 returns-then-a-count g c =
     let n = c.count-count.ensures.number in
     rw (← c.self.view_is)
-    (compares_not (g.S.Store.rows c.self.inside.store) c.self.inside.tables c.self.invariant c.args.a c.args.b
+    (compares_not (g.S.Store.rows c.self.inside.store) c.self.inside.tables c.self.invariant.0 c.args.a c.args.b
     (elim c.then-a-count.branch [ then-a-count-via-then-a-count w ↦ let h = w.if-a-count.true in inl (omega arith) | then-a-count-via-else-a-count+then-b-count w ↦ let h = w.if-b-count.true in inr (omega arith) ]))
 
 pub returns : goal.returns
@@ -17,5 +17,5 @@ returns g c =
     let h = c.if-a-count.false in
     let l = c.if-b-count.false in
     rw (← c.self.view_is)
-    (compares (g.S.Store.rows c.self.inside.store) c.self.inside.tables c.self.invariant c.args.a c.args.b (omega arith) (omega arith) c.is_as_good-above.result c.is_as_good-below.result
-    c.by_play.result c.is_as_good-above.ensures c.is_as_good-below.ensures c.by_play.ensures.value)
+    (compares (g.S.Store.rows c.self.inside.store) c.self.inside.tables c.self.invariant.0 c.args.a c.args.b (omega arith) (omega arith) c.is_as_good-above.result c.is_as_good-below.result
+    c.by_play.result (rw (c.from-a.ensures, c.from-b.ensures) at c.is_as_good-above.ensures) (rw (c.from-a.ensures, c.from-b.ensures) at c.is_as_good-below.ensures) c.by_play.ensures.value)

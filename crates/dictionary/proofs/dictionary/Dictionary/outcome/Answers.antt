@@ -13,4 +13,4 @@ returns-in_err-compare g c =
 
 pub returns : goal.returns
 returns g c =
-    rw c.from.ensures (tells c.args.self.now.rows c.self.inside.tables (kept_inside (g.S.Store.rows c.self.inside.store) (g.S.Store.room c.self.inside.store) c.args.self.now c.self.inside.tables c.self.view_is c.self.invariant) c.args.node c.in_ok-compare.field-0 c.in_ok-compare.ensures)
+    rw c.from.ensures (tells c.args.self.now.rows c.self.inside.tables (kept_inside (g.S.Store.rows c.self.inside.store) (g.S.Store.room c.self.inside.store) c.args.self.now c.self.inside.tables c.self.view_is c.self.invariant.0) c.args.node c.in_ok-compare.field-0 c.in_ok-compare.ensures)

@@ -7,10 +7,10 @@ use Rattle.calls.specs.Answers.{told, refused}
 use Rattle.dictionary.proofs.Prints.{print_steps, printed_long, printed_told, printed_unknown}
 use Rattle.dictionary.proofs.dictionary.Dictionary.print.Goals as goal
 
-pub returns-then-node-count : goal.returns-then-node-count
-returns-then-node-count g c =
+pub returns-then-from-count : goal.returns-then-from-count
+returns-then-from-count g c =
     let rows = g.S.Store.rows c.self.inside.store in
-    let h = c.if-node-count.true in
+    let h = c.if-from-count.true in
     let k = c.count.ensures in
     let printed = printed_unknown rows c.args.node c.args.out.now (omega arith) in
     record { printed = rw (← c.self.view_is) printed; step = rw (← c.self.view_is) (print_steps rows c.args.node c.args.out.now (refused 1) c.args.out.now printed) }
@@ -18,7 +18,7 @@ returns-then-node-count g c =
 pub returns : goal.returns
 returns g c =
     let rows = g.S.Store.rows c.self.inside.store in
-    let h = c.if-node-count.false in
+    let h = c.if-from-count.false in
     let k = c.count.ensures in
     let m = c.min.ensures in
     let is : c.spend.result ≡ Some c.in_ok-ok_or.field-0 = search rules in
@@ -29,7 +29,7 @@ returns g c =
 pub returns-in_err-ok_or : goal.returns-in_err-ok_or
 returns-in_err-ok_or g c =
     let rows = g.S.Store.rows c.self.inside.store in
-    let h = c.if-node-count.false in
+    let h = c.if-from-count.false in
     let k = c.count.ensures in
     let m = c.min.ensures in
     let is : c.spend.result ≡ None = search rules in

@@ -13,7 +13,7 @@ returns-in_err-new g c =
     let h = c.in_err-new.ensures in
     rw (← c.self.view_is, ← c.dictionary.view_is) (record {
       found = e ∙ none_so_long rows _ law c.args.left.now c.args.right.now h;
-      sound = kept_sound rows c.dictionary.inside.tables _ c.dictionary.invariant law;
+      sound = kept_sound rows c.dictionary.inside.tables _ c.dictionary.invariant.0 law;
       lawful = law;
     })
 
@@ -23,6 +23,6 @@ returns g c =
     let law = g.met.S.Store.lawful c.dictionary.inside.store in
     rw (← c.self.view_is, ← c.dictionary.view_is) (record {
       found = c.find.ensures ∙ ap (lowest rows) (lists_in _ _ _ c.in_ok-new.ensures);
-      sound = kept_sound rows c.dictionary.inside.tables _ c.dictionary.invariant law;
+      sound = kept_sound rows c.dictionary.inside.tables _ c.dictionary.invariant.0 law;
       lawful = law;
     })

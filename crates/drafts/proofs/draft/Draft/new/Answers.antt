@@ -4,4 +4,4 @@ use Rattle.drafts.proofs.Held.{drafts_hold, lists_none}
 use Rattle.drafts.proofs.draft.Draft.new.Goals as goal
 
 pub returns : goal.returns
-returns c = record { empty = lists_none (by c.empty.result) c.empty.ensures; some = drafts_hold }
+returns c = record { empty = lists_none (by c.default.result.numbers) c.default.ensures; some = drafts_hold }

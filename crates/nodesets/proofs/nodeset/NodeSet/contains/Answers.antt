@@ -6,10 +6,10 @@ use Rattle.nodesets.specs.Sets.{mem}
 use Rattle.nodesets.proofs.Words.{mem_past}
 use Rattle.nodesets.proofs.nodeset.NodeSet.contains.Goals as goal
 
-pub returns-then-node-lt-NODES : goal.returns-then-node-lt-NODES
+pub returns-then-node-lt-MOST_NODES : goal.returns-then-node-lt-MOST_NODES
 unfolding bit mem
-returns-then-node-lt-NODES c = refl
+returns-then-node-lt-MOST_NODES c = refl
 
-pub returns-else-node-lt-NODES : goal.returns-else-node-lt-NODES
-returns-else-node-lt-NODES c =
-    le-ltb c.args.node 384 c.if-node-lt-NODES.false ∙ sym (mem_past c.args.self.now.words c.args.node c.args.self.now.six c.if-node-lt-NODES.false)
+pub returns-else-node-lt-MOST_NODES : goal.returns-else-node-lt-MOST_NODES
+returns-else-node-lt-MOST_NODES c =
+    le-ltb c.args.node 384 c.if-node-lt-MOST_NODES.false ∙ sym (mem_past c.args.self.now.words c.args.node c.args.self.now.six c.if-node-lt-MOST_NODES.false)

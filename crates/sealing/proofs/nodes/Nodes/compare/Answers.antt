@@ -20,9 +20,9 @@ loop-h-init c =
     let t = c.args.self.now in
     let o = by c.args.moves.now in
     let inside = within_links t o c.requires in (
-      partly_none (links t) (ranks t) t.lower t.ranked (same_length (vec_items t.rows)) Left o inside (has c.bested.result) (has c.empty.result) c.bested.ensures c.empty.ensures,
+      partly_none (links t) (ranks t) t.lower t.ranked (same_length (vec_items t.rows)) Left o inside (has c.bested.result) (has c.default.result) c.bested.ensures c.default.ensures,
       λ k l. absurd (omega arith),
-      partly_none (links t) (ranks t) t.lower t.ranked (same_length (vec_items t.rows)) Right o inside (has c.bested-2.result) (has c.empty-2.result) c.bested-2.ensures c.empty-2.ensures,
+      partly_none (links t) (ranks t) t.lower t.ranked (same_length (vec_items t.rows)) Right o inside (has c.bested-2.result) (has c.default-2.result) c.bested-2.ensures c.default-2.ensures,
       λ k l. absurd (omega arith),
     )
 

@@ -16,8 +16,8 @@ returns-in_default-sealed c = (
   inl (no_row c.args.self.now (by c.args.moves.now) c.find.result c.find.ensures.seals (λ p e. c.in_default-sealed.not-New p (let i : c.find.result ≡ Ok c.in-Ok.sealed = c.in-Ok.is in cc))),
 )
 
-pub returns-then-number-eq-NODES : goal.returns-then-number-eq-NODES
-returns-then-number-eq-NODES c = (refl, inr (let a = c.count-number.ensures ∙ count_is c.args.self.now in let b = c.if-number-eq-NODES.true in omega arith))
+pub returns-then-number-eq-MOST_NODES : goal.returns-then-number-eq-MOST_NODES
+returns-then-number-eq-MOST_NODES c = (refl, inr (let a = c.count-number.ensures ∙ count_is c.args.self.now in let b = c.if-number-eq-MOST_NODES.true in omega arith))
 
 pub append-requires : goal.append-requires
 append-requires c =
@@ -25,7 +25,7 @@ append-requires c =
     let o = by c.args.moves.now in
     let seals = subst (λ (s : Sealed). SealsTo (Ok s) t o) c.in-New.is c.in-Ok.ensures.seals in
     record {
-      room = let a = c.count-number.ensures ∙ count_is t in let b = c.if-number-eq-NODES.false in let f = t.nodes.few in omega arith;
+      room = let a = c.count-number.ensures ∙ count_is t in let b = c.if-number-eq-MOST_NODES.false in let f = t.nodes.few in omega arith;
       within = seals.0;
       canonical = seals.1.row.canonical;
       fresh = fresh_row t o (row_of t (by c.in-New.form)) seals.1;

@@ -9,20 +9,20 @@ use Rattle.nodesets.proofs.Sides.{both}
 use Rattle.sealing.specs.Seals.{listed, row_of}
 use Rattle.sealing.proofs.tables.Tables.is_narrow.Goals as goal
 
-pub returns-then-count_listed-le16 : goal.returns-then-count_listed-le16
-returns-then-count_listed-le16 c =
+pub returns-then-count_listed-le-MOST_OPTIONS : goal.returns-then-count_listed-le-MOST_OPTIONS
+returns-then-count_listed-le-MOST_OPTIONS c =
     let t = c.args.self.now in
     let l : c.count_listed.result ≡ length (listed t (has c.args.form.now.left)) = c.count_listed.ensures ∙ ap (λ ks. length (filter (has c.args.form.now.left) ks)) c.deref.ensures.value in
-    let r : c.count_listed-then-count_listed-le16.result ≡ length (listed t (has c.args.form.now.right)) =
-    c.count_listed-then-count_listed-le16.ensures ∙ ap (λ ks. length (filter (has c.args.form.now.right) ks)) c.deref-then-count_listed-le16.ensures.value in (
-      λ e. both (λ s. length (list_of s (row_of t (by c.args.form.now))) ≤ 16) (omega (arith, c.if-count_listed-le16.true)) (omega (arith, leb-true _ _ e)),
+    let r : c.count_listed-then-count_listed-le-MOST_OPTIONS.result ≡ length (listed t (has c.args.form.now.right)) =
+    c.count_listed-then-count_listed-le-MOST_OPTIONS.ensures ∙ ap (λ ks. length (filter (has c.args.form.now.right) ks)) c.deref-then-count_listed-le-MOST_OPTIONS.ensures.value in (
+      λ e. both (λ s. length (list_of s (row_of t (by c.args.form.now))) ≤ 16) (omega (arith, c.if-count_listed-le-MOST_OPTIONS.true)) (omega (arith, leb-true _ _ e)),
       λ h. le-leb _ 16 (let k : length (listed t (has c.args.form.now.right)) ≤ 16 = h Right in omega arith),
     )
 
-pub returns-else-count_listed-le16 : goal.returns-else-count_listed-le16
-returns-else-count_listed-le16 c =
+pub returns-else-count_listed-le-MOST_OPTIONS : goal.returns-else-count_listed-le-MOST_OPTIONS
+returns-else-count_listed-le-MOST_OPTIONS c =
     let t = c.args.self.now in
     let l : c.count_listed.result ≡ length (listed t (has c.args.form.now.left)) = c.count_listed.ensures ∙ ap (λ ks. length (filter (has c.args.form.now.left) ks)) c.deref.ensures.value in (
-      λ e. absurd (both_ways _ (lt-leb _ 16 c.if-count_listed-le16.false) e),
-      λ h. absurd (let k : length (listed t (has c.args.form.now.left)) ≤ 16 = h Left in omega (arith, c.if-count_listed-le16.false)),
+      λ e. absurd (both_ways _ (lt-leb _ 16 c.if-count_listed-le-MOST_OPTIONS.false) e),
+      λ h. absurd (let k : length (listed t (has c.args.form.now.left)) ≤ 16 = h Left in omega (arith, c.if-count_listed-le-MOST_OPTIONS.false)),
     )

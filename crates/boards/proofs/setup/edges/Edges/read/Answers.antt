@@ -8,4 +8,4 @@ use Rattle.boards.proofs.setup.edges.Edges.read.Goals as goal
 pub returns : goal.returns
 returns c =
     run_folded edge_step _ _ _ _ _ _ _ c.iter.ensures.rest c.try_fold.ensures.ran (λ s x r f k. search rules)
-    ∙ ap (λ s. run edge_step (Some s) c.args.items.now) c.none.ensures
+    ∙ ap (λ s. run edge_step (Some s) c.args.items.now) (search rules)

@@ -14,14 +14,14 @@ loop-next-init c =
 pub loop-next-smaller : goal.loop-next-smaller
 loop-next-smaller c =
     let level : length (vec_items c.args.self.now.lowers) ≡ length (rows_in c.args.self.now.list) = omega arith in
-    walk_falls _ _ _ level c.args.self.now.goes_on c.in-Some.node _ _ c.index-next.result.now c.loop-next.invariant c.in-Some.is c.index-next.ensures
+    walk_falls _ _ _ level c.args.self.now.goes_on c.in-Some.node _ _ c.index-next.result.now c.loop-next.invariant c.in-Some.is (rw c.from.ensures at c.index-next.ensures)
 
 pub loop-next-preserved : goal.loop-next-preserved
 loop-next-preserved c =
     let level : length (vec_items c.args.self.now.lowers) ≡ length (rows_in c.args.self.now.list) = omega arith in
     elim c.if-same.branch [
-      | then-same w ↦ walk_then _ _ _ level c.args.self.now.goes_on c.in-Some.node _ _ c.index-next.result.now c.loop-next.invariant c.in-Some.is c.index-next.ensures _ c.same.ensures _ w.if-same.true w.found-is
-      | else-same w ↦ walk_else _ _ _ level c.args.self.now.goes_on c.in-Some.node _ _ c.index-next.result.now c.loop-next.invariant c.in-Some.is c.index-next.ensures _ c.same.ensures _ w.if-same.false w.found-is
+      | then-same w ↦ walk_then _ _ _ level c.args.self.now.goes_on c.in-Some.node _ _ c.index-next.result.now c.loop-next.invariant c.in-Some.is (rw c.from.ensures at c.index-next.ensures) _ c.same.ensures _ w.if-same.true w.found-is
+      | else-same w ↦ walk_else _ _ _ level c.args.self.now.goes_on c.in-Some.node _ _ c.index-next.result.now c.loop-next.invariant c.in-Some.is (rw c.from.ensures at c.index-next.ensures) _ c.same.ensures _ w.if-same.false w.found-is
     ]
 
 pub returns : goal.returns

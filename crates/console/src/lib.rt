@@ -1,0 +1,4 @@
+// The calculator at a terminal or in a pipe: the lines of an input are answered, one by one.
+#![tactic(auto)]
+
+pub mod serving;
