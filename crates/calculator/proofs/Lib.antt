@@ -1,7 +1,7 @@
 pub mod Numbers
+pub mod Parts
 pub mod Places
 pub mod Subjects
-pub mod Parts
 pub mod Values
 pub mod Replies
 pub mod Answering

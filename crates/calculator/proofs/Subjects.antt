@@ -17,9 +17,8 @@ use Rattle.boards.specs.Boards.{Position}
 use Rattle.boards.specs.AnyBoards.{any_rules}
 use Rattle.boards.specs.declared.setup.Setup.{Setup}
 use Rattle.calculator.specs.declared.fault.CalculatorFault.{CalculatorFault}
-use Rattle.reading.specs.Faults.{read_answer, read_number, read_place}
+use Rattle.reading.specs.Faults.{ReadFault, fault_place, read_answer, read_number}
 use Rattle.reading.specs.TextRead.{TextRead}
-use Rattle.reading.specs.declared.fault.ReadFault.{ReadFault}
 use Rattle.calculator.specs.declared.fault.CalculatorFault.TheVariants.{Text}
 use Rattle.calculator.proofs.Places.{reads_bound}
 use Rattle.calculator.specs.Entering.{ReadAt, ValuedAt}
@@ -119,9 +118,9 @@ module _ (c : ℕ) (rows : Rows) (i : ℕ) (s : Subject) (p : Part) (g : Game) (
 
 -- a text that is refused, at the place of its fault in the line
 pub text_refused : (c : ℕ) (rows after : Rows) (start : ℕ) (text : List ℕ) (r : Result ℕ ReadFault) (f : ReadFault) (g : CalculatorFault) (q : Result ℕ CalculatorFault) → start + length text < 2 ^ 64 → TextRead c rows text (read_answer r) after → r ≡ Err f
-    → (start + read_place f < 2 ^ 64 → g ≡ Text (start + read_place f) f) → q ≡ Err g → ReadAt c rows start text (answer_of q) after
+    → (start + fault_place f < 2 ^ 64 → g ≡ Text (start + fault_place f) f) → q ≡ Err g → ReadAt c rows start text (answer_of q) after
 text_refused c rows after start text r f g q small x was is e =
     let reads = subst (λ z. Reads c rows text (read_answer z) after x.entries) was x.holds in
     let b = reads_bound text reads in
     let same = is (omega arith) in
-    record { plain = refused_at (read_number f) (read_place f); entries = x.entries; holds = reads; answers = ap answer_of e ∙ ap₂ refused_at (ap number_of same) (ap place_of same) }
+    record { plain = refused_at (read_number f) (fault_place f); entries = x.entries; holds = reads; answers = ap answer_of e ∙ ap₂ refused_at (ap number_of same) (ap place_of same) }

@@ -2,7 +2,7 @@
 ghost use Rattle.std.specs.Prelude.{◌≡◌, ℕ, ◌+◌, ◌^◌, ◌<◌, ◌≤◌, ◌++◌, length, codes};
 ghost use Rattle.lines.specs.Questions.{DescribesBoard, DescribesSubject};
 ghost use Rattle.lines.specs.Syntax.{Board as Written, Subject as Named, plain, minus, spell_board, spell_subject, sum};
-ghost use Rattle.reading.specs.Faults.{read_place};
+ghost use Rattle.reading.specs.Faults.{fault_place};
 ghost use Rattle.calculator.specs.declared.fault.CalculatorFault.TheVariants.{Text};
 ghost use Rattle.calculator.specs.Entering.{ReadAt, ValuedAt};
 ghost use Rattle.calculator.specs.Faults.{answer_of};
@@ -22,7 +22,7 @@ use valuing::value::value_with;
 
 // A fault in a text that begins at this place of the line: it has its own place.
 fn within(start: usize, fault: ReadFault) -> CalculatorFault
-    ensures { start + read_place fault < 2 ^ 64 → result ≡ Text (start + read_place fault) fault }
+    ensures { start + fault_place fault < 2 ^ 64 → result ≡ Text (start + fault_place fault) fault }
 {
     let place = start.saturating_add(fault.place());
     CalculatorFault::Text { place, fault }

@@ -54,12 +54,11 @@ impl CalculatorFault {
         match self {
             CalculatorFault::LongLine => 1000,
             CalculatorFault::Line(fault) => fault.place(),
-            CalculatorFault::Board { place, fault: _ } => place,
-            CalculatorFault::Illegal { place } => place,
-            CalculatorFault::Position { place, fault: _ } => place,
-            CalculatorFault::Text { place, fault: _ } => place,
-            CalculatorFault::Dictionary(_) => 0,
-            CalculatorFault::Print(_) => 0,
+            CalculatorFault::Board { place, fault: _ }
+            | CalculatorFault::Illegal { place }
+            | CalculatorFault::Position { place, fault: _ }
+            | CalculatorFault::Text { place, fault: _ } => place,
+            CalculatorFault::Dictionary(_) | CalculatorFault::Print(_) => 0,
         }
     }
 }

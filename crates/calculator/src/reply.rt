@@ -11,9 +11,10 @@ use crate::bounds::LONGEST_ANSWER;
 use crate::calculator::Calculator;
 use crate::fault::CalculatorFault;
 use crate::laying::stand;
-use crate::writing::{digits, put_bytes, put_head, put_number};
+use crate::writing::{put, put_head};
 use games::outcome::Comparison;
 use games::side::Side;
+use itoa::Buffer;
 use lines::question::{Board, Subject};
 use stores::store::Store;
 use valuing::first_move::first_move_with;
@@ -23,7 +24,7 @@ fn put_comparison(out: &mut [u8; LONGEST_ANSWER], comparison: Comparison) -> usi
     ensures behind { result ≡ length (sign comparison) }
     ensures written { AtFront out.old (sign comparison) out.new }
 {
-    put_bytes(out, 0, comparison.sign().as_bytes())
+    put(out, &[comparison.sign().as_bytes()])
 }
 
 // Writes the index of a move, or that there is none.
@@ -32,8 +33,8 @@ fn put_move(out: &mut [u8; LONGEST_ANSWER], index: Option<usize>) -> usize
     ensures written { AtFront out.old (move_text index) out.new }
 {
     match index {
-        Some(index) => put_number(out, 0, index),
-        None => put_bytes(out, 0, b"none"),
+        Some(index) => put(out, &[Buffer::new().format(index).as_bytes()]),
+        None => put(out, &[b"none"]),
     }
 }
 
@@ -48,7 +49,7 @@ impl<S: Store> Calculator<S> {
         ensures { node < length self.now.dictionary.rows → WroteValue self.now.dictionary.rows node out.old out.new result }
     {
         let outcome = self.dictionary.outcome(node)?;
-        let start = digits(usize::from(node)) + 3;
+        let start = Buffer::new().format(node).len() + 3;
         let length = self
             .dictionary
             .print(node, &mut out[start..LONGEST_ANSWER])?;

@@ -1,11 +1,12 @@
--- A list of calls worked through: a position valued, a text read, a draft sealed, a node printed, and two refusals between.
+-- A list of calls worked through: a position valued, a first move told, a text read, a draft abandoned and then sealed, a node printed, and two refusals between.
 -- Assumes nothing.
-use Rattle.std.proofs.Common.{◌≡◌, ℕ, zero, suc, ◌<◌, ◌≤◌, Bool, true, false, cond, eqb, List, [], ◌∷◌, length, take, refl, arith}
+use Rattle.std.proofs.Common.{◌≡◌, ℕ, zero, suc, ◌<◌, ◌≤◌, Bool, true, false, cond, eqb, List, [], ◌∷◌, length, take, Some, refl, arith}
 use Rattle.std.specs.List.{AllByRecursion}
 use Rattle.games.specs.declared.side.Side.{Side}
 use Rattle.games.specs.declared.side.Side.TheVariants.{Left, Right}
 use Rattle.games.specs.Form.{Form, form, ∅, ◌&◌, 𝟎, 𝟏}
 use Rattle.games.specs.Order.{ge}
+use Rattle.games.specs.Play.{wins}
 use Rattle.games.specs.Text.{bytes}
 use Rattle.games.proofs.Tests.{canonical_is}
 use Rattle.rulesets.specs.Rules.{Lawful, game}
@@ -13,7 +14,7 @@ use Rattle.calls.specs.Rows.{Rows, no_numbers, node}
 use Rattle.calls.specs.Answers.{told, refused}
 use Rattle.calls.specs.Sealing.{New, Seals, found, added, SealsNumbers, known}
 use Rattle.calls.specs.Entering.{entry, done, next, accepted}
-use Rattle.calls.specs.Positions.{Values}
+use Rattle.calls.specs.Positions.{FirstMoves, Values, Winning}
 use Rattle.calls.specs.Texts.{times, Shallow}
 use Rattle.calls.specs.Reading.{Reads}
 use Rattle.calls.specs.Asking.{Prints}
@@ -124,6 +125,10 @@ valued = Values.legal refl (accepted (next seal_0 (next seal_1 done)))
 refused_value : Values counter 3 upto_1 7 (refused 4) upto_1 []
 refused_value = Values.illegal refl
 
+moved : FirstMoves counter 3 upto_1 Left 1 (told (Some 0)) upto_1 (entry 0 𝟎 ∷ [])
+unfolding game wins
+moved = FirstMoves.valued refl (next again_0 done) (Winning.index 0 (omega arith) refl)
+
 -- a text of at most 96 bytes is nested at most 96 deep
 times_length : (x : ℕ) (t : List ℕ) → times x t ≤ length t
 times_length x [] = omega arith
@@ -151,11 +156,20 @@ after_value = grown new upto_1 (entry 1 𝟏 ∷ entry 0 𝟎 ∷ [])
 abbrev after_refusal : Past
 after_refusal = grown after_value upto_1 []
 
+abbrev after_move : Past
+after_move = grown after_refusal upto_1 (entry 0 𝟎 ∷ [])
+
 abbrev after_read : Past
-after_read = grown after_refusal upto_2 (entry 2 wide ∷ entry 1 𝟏 ∷ entry 0 𝟎 ∷ entry 0 𝟎 ∷ [])
+after_read = grown after_move upto_2 (entry 2 wide ∷ entry 1 𝟏 ∷ entry 0 𝟎 ∷ entry 0 𝟎 ∷ [])
+
+abbrev after_zero : Past
+after_zero = holding (holding after_read 0 no_numbers 1) 0 (put Left 0 no_numbers) 1
+
+abbrev after_abandon : Past
+after_abandon = holding after_zero 0 no_numbers 0
 
 abbrev after_open : Past
-after_open = holding after_read 0 no_numbers 1
+after_open = holding after_abandon 0 no_numbers 1
 
 abbrev after_put : Past
 after_put = holding after_open 0 (put Left 1 no_numbers) 1
@@ -175,10 +189,14 @@ unfolding node
 print_2 = Prints.written (omega arith) (omega arith) (omega arith)
 
 reached : Reached 3 after_print
-reached = one_more (one_more (one_more (one_more (one_more (one_more (one_more (one_more none_yet
+reached = one_more (one_more (one_more (one_more (one_more (one_more (one_more (one_more (one_more (one_more (one_more (one_more none_yet
     (Call.value counter counter_lawful 1 valued))
     (Call.value counter counter_lawful 7 refused_value))
+    (Call.first_move counter counter_lawful Left 1 moved))
     (Call.read (bytes wide) text_read))
+    (Call.open_draft 0))
+    (Call.put_number 0 Left 0 (omega arith) (omega arith)))
+    (Call.abandon 0 0 refl))
     (Call.open_draft 0))
     (Call.put_number 0 Left 1 (omega arith) (omega arith)))
     (Call.put_refused 0 Left 384 (omega arith) (omega arith)))

@@ -1,6 +1,8 @@
 -- Where a reader of the code stands, in the words of the machine that takes one mark after the other.
 -- Assumes nothing.
-use Rattle.std.specs.Prelude.{◌≡◌, ℕ, List, [], map, reverse, length, Some, None, Option, Result, MatchOption, MatchResult}
+use Rattle.std.specs.Prelude.{◌≡◌, ℕ, List, [], map, reverse, length, Some, None, Option, Result, MatchResult}
+use Rattle.std.proofs.Common.{ControlFlow}
+use Rattle.std.specs.ControlFlow.{MatchControlFlow}
 use Rattle.games.specs.Form.{Form as Game}
 use Rattle.games.specs.Text.{Mark, open_mark, close_mark, byte}
 use Rattle.games.specs.declared.side.Side.TheVariants.{Left}
@@ -45,9 +47,9 @@ Refused q b place (WrongByte i) = (i ≡ place) × ((m : Mark) → byte m ≡ b 
 Refused q b place (EarlyEnd i) = ⊥
 Refused q b place (TooDeep i) = (i ≡ place) × (byte open_mark ≡ b) × (spot_of (next q open_mark) ≡ Some (Start Left)) × (length (outer_of (next q open_mark)) ≡ 96)
 
--- The byte at the place is a mark: it takes the reader where it takes the machine, or it is the last bracket; or it is refused.
-abbrev pub Stepped : State → ℕ → ℕ → Result (Option Nest) TextFault → Type 0
-Stepped q b place answer =
+-- The byte at the place is a mark: the reader stands behind it where the machine does, or it is the last bracket; or it is refused.
+abbrev pub Stepped : State → Nest → ℕ → ℕ → Result (ControlFlow (Unit {0}) (Unit {0})) TextFault → Type 0
+Stepped q nest b place answer =
     MatchResult answer
-    (λ on. MatchOption on ((byte close_mark ≡ b) × (g : Game) × (next q close_mark ≡ done g)) (λ nest. (m : Mark) × (byte m ≡ b) × Stands nest (next q m)))
+    (λ flow. MatchControlFlow flow (λ _. (m : Mark) × (byte m ≡ b) × Stands nest (next q m)) (λ _. (byte close_mark ≡ b) × (g : Game) × (next q close_mark ≡ done g)))
     (Refused q b place)

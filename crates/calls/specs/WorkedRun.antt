@@ -38,9 +38,10 @@ row_of_1 = record { left = 0 ∷ []; right = [] }
 abbrev pub row_of_2 : Lists
 row_of_2 = record { left = 1 ∷ []; right = [] }
 
--- With a capacity of 3: position 1 is valued, then 7, which is refused; {0,1|} is read; a draft is opened, 1 is put on its Left and 384 refused,
--- and it is sealed; and node 2 is printed. This leaves three rows, two entries of node 2, drafted as {1|} and read as {0,1|}, and the text of {1|}.
+-- With a capacity of 3: position 1 is valued, then 7, which is refused; a first move of Left on 1 is told; {0,1|} is read; a draft is opened, 0 is put
+-- on its Left, and it is abandoned; it is opened again, 1 is put on its Left and 384 refused, and it is sealed; and node 2 is printed.
+-- This leaves three rows, two entries of node 2, drafted as {1|} and read as {0,1|}, and the text of {1|}.
 abbrev pub WorkedRun : Type 0
 WorkedRun = (p : Past) × Reached 3 p × (p.rows ≡ no_numbers ∷ row_of_1 ∷ row_of_2 ∷ [])
-    × (p.entries ≡ entry 2 (form (𝟏 & ∅) ∅) ∷ entry 2 (form (𝟎 & (𝟏 & ∅)) ∅) ∷ entry 1 𝟏 ∷ entry 0 𝟎 ∷ entry 0 𝟎 ∷ entry 1 𝟏 ∷ entry 0 𝟎 ∷ [])
+    × (p.entries ≡ entry 2 (form (𝟏 & ∅) ∅) ∷ entry 2 (form (𝟎 & (𝟏 & ∅)) ∅) ∷ entry 1 𝟏 ∷ entry 0 𝟎 ∷ entry 0 𝟎 ∷ entry 0 𝟎 ∷ entry 1 𝟏 ∷ entry 0 𝟎 ∷ [])
     × (p.printed ≡ record { number = 2; text = bytes (form (𝟏 & ∅) ∅) } ∷ [])

@@ -30,9 +30,8 @@ impl TextFault {
         ensures { result ≡ place_of self }
     {
         match self {
-            TextFault::WrongByte(place) => place,
-            TextFault::EarlyEnd(place) => place,
-            TextFault::TooDeep(place) => place,
+            TextFault::WrongByte(place) | TextFault::EarlyEnd(place) | TextFault::TooDeep(place) =>
+                place,
         }
     }
 }

@@ -36,9 +36,6 @@ lines_unbroken b (c ∷ cs) h =
 
 -- ---- what is kept of a line
 
-pub kept_short : (line : List ℕ) → length (kept line) ≤ 1001
-kept_short line = omega (arith, length-take 1001 line)
-
 -- a part behind a line of m bytes, as far as n bytes have room
 pub take_room : (line part : List ℕ) (m n : ℕ) → m ≡ length line → m ≤ n → line ++ take (min (length part) (n - m)) part ≡ take n (line ++ part)
 take_room line part m n is fits =

@@ -1,13 +1,14 @@
 // Answering the lines of an input, one by one.
-ghost use Rattle.std.specs.Prelude.{◌≡◌, ◌==◌, ℕ, List, [], ◌∷◌, ◌++◌, ◌≤◌, length, Some, IfOk, IfSome, OnOk, position};
+ghost use Rattle.std.specs.Prelude.{◌≡◌, ◌==◌, ℕ, List, [], ◌∷◌, ◌++◌, Some, IfOk, IfSome, OnOk, position};
 ghost use Rattle.std.specs.Io.Buffered.{reader_remaining, writer_buffer, writer_contents};
 ghost use Rattle.std.specs.Io.KnownBytes.{Appends};
 ghost use Rattle.calculator.specs.Replies.{Answers};
-ghost use Rattle.console.specs.Serving.{Begins, Serves, Takes, TakesLine, kept};
+ghost use Rattle.console.specs.Serving.{Begins, Serves, Takes, TakesLine};
 
-use calculator::bounds::{LONGEST_ANSWER, LONGEST_LINE};
+use crate::line::Line;
+use calculator::bounds::LONGEST_ANSWER;
 use calculator::calculator::Calculator;
-use std::alloc::{AllocError, Global};
+use std::alloc::Global;
 use std::io;
 use std::io::{BufRead, BufReader, BufWriter, ErrorKind, Read, Write};
 use stores::store::Store;
@@ -22,15 +23,6 @@ enum Stop {
     End,
 }
 
-// Puts a part of a line behind what is kept of it: of a line that is too long one byte more than a line may have, which shows it.
-fn keep(line: &mut Vec<u8>, part: &[u8]) -> Result<(), AllocError>
-    requires { length line.old.items ≤ 1001 }
-    ensures { OnOk result (line.new.items ≡ kept (line.old.items ++ part.now)) }
-{
-    let room = LONGEST_LINE + 1 - line.len();
-    line.extend_from_slice(&part[..part.len().min(room)])
-}
-
 // The place of the first line break.
 fn line_break(bytes: &[u8]) -> Option<usize>
     ensures { result ≡ position (λ b. b == 10) bytes.now }
@@ -39,10 +31,8 @@ fn line_break(bytes: &[u8]) -> Option<usize>
 }
 
 // Takes the bytes at hand that belong to the line, and its line break.
-fn take_part<B: BufRead>(input: &mut B, line: &mut Vec<u8>) -> io::Result<Stop>
-    requires { length line.old.items ≤ 1001 }
-    ensures short { OnOk result (length line.new.items ≤ 1001) }
-    ensures taken { IfOk result (λ stop. IfSome (B.remaining input.old) (λ bytes. (rest : List ℕ) × (B.remaining input.new ≡ Some rest) × Takes line.old.items bytes line.new.items rest stop)) }
+fn take_part<B: BufRead>(input: &mut B, line: &mut Line) -> io::Result<Stop>
+    ensures { IfOk result (λ stop. IfSome (B.remaining input.old) (λ bytes. (rest : List ℕ) × (B.remaining input.new ≡ Some rest) × Takes line.old.bytes.items bytes line.new.bytes.items rest stop)) }
 {
     let at_hand = match input.fill_buf() {
         Ok(at_hand) => at_hand,
@@ -54,13 +44,13 @@ fn take_part<B: BufRead>(input: &mut B, line: &mut Vec<u8>) -> io::Result<Stop>
     }
     match line_break(at_hand) {
         Some(place) => {
-            keep(line, &at_hand[..place])?;
+            line.keep(&at_hand[..place])?;
             input.consume(place + 1);
             Ok(Stop::Break)
         }
         None => {
             let taken = at_hand.len();
-            keep(line, at_hand)?;
+            line.keep(at_hand)?;
             input.consume(taken);
             Ok(Stop::Nowhere)
         }
@@ -68,16 +58,15 @@ fn take_part<B: BufRead>(input: &mut B, line: &mut Vec<u8>) -> io::Result<Stop>
 }
 
 // The next line without its line break, or as much of it as shows that it is too long; false where the input has ended.
-fn next_line<B: BufRead>(input: &mut B, line: &mut Vec<u8>) -> io::Result<bool>
-    ensures short { OnOk result (length line.new.items ≤ 1001) }
-    ensures taken { IfOk result (λ more. IfSome (B.remaining input.old) (λ bytes. (rest : List ℕ) × (B.remaining input.new ≡ Some rest) × TakesLine bytes line.new.items rest more)) }
+fn next_line<B: BufRead>(input: &mut B, line: &mut Line) -> io::Result<bool>
+    ensures { IfOk result (λ more. IfSome (B.remaining input.old) (λ bytes. (rest : List ℕ) × (B.remaining input.new ≡ Some rest) × TakesLine bytes line.new.bytes.items rest more)) }
 {
     line.clear();
     for _ in 0..u64::MAX {
         match take_part(input, line)? {
             Stop::Nowhere => {}
             Stop::Break => return Ok(true),
-            Stop::End => return Ok(!line.is_empty()),
+            Stop::End => return Ok(!line.bytes().is_empty()),
         }
     }
     Err(io::Error::from(ErrorKind::TimedOut))
@@ -93,9 +82,7 @@ fn answer_line<S: Store, W: Write>(
     ensures answered { (t : List ℕ) × Answers calculator.old.dictionary.room calculator.old.dictionary.rows line.now t calculator.new.dictionary.rows × OnOk result (Appends (W.contents output.old) (W.contents output.new) (t ++ (10 ∷ []))) }
     ensures room { calculator.new.dictionary.room ≡ calculator.old.dictionary.room }
 {
-    let Ok(length) = calculator.answer(line, answer) else {
-        unreachable!()
-    };
+    let length = calculator.answer(line, answer).unwrap();
     output.write_all(&answer[..length])?;
     output.write_all(b"\n")
 }
@@ -114,13 +101,13 @@ pub fn serve<S: Store, R: Read + Drop, W: Write + Drop>(
     ensures flushed { OnOk result (writer_buffer output.new ≡ []) }
     ensures room { calculator.new.dictionary.room ≡ calculator.old.dictionary.room }
 {
-    let mut line = Vec::with_capacity(heap, LONGEST_LINE + 1)?;
+    let mut line = Line::new(heap)?;
     let mut answer = [0; LONGEST_ANSWER];
     for _ in 0..u64::MAX {
         if !next_line(input, &mut line)? {
             return output.flush();
         }
-        answer_line(calculator, &line, &mut answer, output)?;
+        answer_line(calculator, line.bytes(), &mut answer, output)?;
         if line_break(input.buffer()).is_none() {
             output.flush()?;
         }

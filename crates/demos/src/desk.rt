@@ -37,9 +37,7 @@ pub fn show_values<S: Shown, M: Recall + Drop>(
     memory: M,
     detail: Detail,
 ) -> anyhow::Result<()> {
-    let Ok(dictionary) = begin::<S>(rt.alloc(), MOST_NODES) else {
-        return Ok(());
-    };
+    let dictionary = begin::<S>(rt.alloc(), MOST_NODES)?;
     println!(rt; "over {}", S::NAME)?;
     let mut desk = Desk {
         dictionary,

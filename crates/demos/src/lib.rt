@@ -3,6 +3,7 @@
 #![tactic(auto)]
 
 pub mod desk;
+pub mod forms;
 pub mod samples;
 pub mod shown;
 pub mod told;

@@ -25,7 +25,10 @@ pub const FORMS: [(&str, &[u16], &[u16]); 9] = [
     ("{9|}", &[9], &[]),
 ];
 
-// Pairs of their nodes, in a store of 6 rows, of which none is 6.
+// How many rows the stores have room for in which the forms are sealed: one fewer than would be wanted.
+pub const ROWS: usize = 6;
+
+// Pairs of their nodes, of which none is 6.
 pub const PAIRS: [(u16, u16); 5] = [(1, 0), (2, 3), (0, 3), (4, 4), (0, 6)];
 
 // The set of the nodes in a list.

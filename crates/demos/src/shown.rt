@@ -51,3 +51,10 @@ pub fn begin<S: Shown>(heap: Global, capacity: usize) -> Result<Dictionary<S>, M
     let store = S::make(heap, capacity)?;
     Ok(Dictionary::begin(heap, store)?)
 }
+
+// The same, over which store and how large a one is told.
+pub fn begin_told<S: Shown>(rt: &HostRuntime, rows: usize) -> anyhow::Result<Dictionary<S>> {
+    let dictionary = begin::<S>(rt.alloc(), rows)?;
+    println!(rt; "over {} of {rows} rows", S::NAME)?;
+    Ok(dictionary)
+}

@@ -8,6 +8,9 @@ use dictionary::dictionary::Dictionary;
 use dictionary::fault::{DictionaryFault, PrintFault};
 use stores::store::Store;
 
+// The size of the buffer that nodes are printed into to be shown.
+pub const BUFFER: usize = 16;
+
 // The outcome of a node.
 pub fn tell<S: Store>(
     rt: &HostRuntime,
@@ -48,6 +51,23 @@ pub fn compare<S: Store>(
             Err(fault) => println!(rt; "{a} and {b}: refused with {}", fault.number())?,
         }
     }
+    Ok(())
+}
+
+// Prints a node into the first bytes of a buffer, as many as there is room for, and shows the whole buffer.
+pub fn print_into<S: Store>(
+    rt: &HostRuntime,
+    dictionary: &Dictionary<S>,
+    node: u16,
+    room: usize,
+) -> anyhow::Result<()> {
+    let mut buffer = [b'.'; BUFFER];
+    print!(rt; "  node {node} into {room} bytes: ")?;
+    match dictionary.print(node, &mut buffer[..room.min(BUFFER)]) {
+        Ok(length) => println!(rt; "wrote {length}")?,
+        Err(fault) => println!(rt; "refused with {}", fault.number())?,
+    }
+    println!(rt; "  {}", std::str::from_utf8(&buffer)?)?;
     Ok(())
 }
 

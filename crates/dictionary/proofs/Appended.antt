@@ -10,8 +10,7 @@ use Rattle.sealing.specs.declared.tables.Tables.{Tables}
 use Rattle.sealing.specs.Seals.{Narrow, row_of}
 use Rattle.stores.specs.declared.fault.StoreFault.{StoreFault}
 use Rattle.stores.specs.declared.fault.StoreFault.TheVariants.{Unknown, Full}
-use Rattle.stores.specs.declared.row.Row.{Row}
-use Rattle.stores.specs.Reading.{lists_of}
+use Rattle.stores.specs.Reading.{Row, lists_of}
 use Rattle.stores.specs.Rows.{Rows, all_below, append_answer, append_rows, names_below}
 use Rattle.calls.specs.Rows.{Below}
 use Rattle.dictionary.specs.Kept.{row_for}

@@ -1,14 +1,13 @@
--- A list written over another from a place on, part by part.
+-- A text written into a buffer part by part, each behind the one before it.
 -- Assumes nothing.
-use Rattle.std.proofs.Common.{◌≡◌, ℕ, zero, suc, ◌+◌, ◌<◌, ◌≤◌, List, [], ◌∷◌, ◌++◌, length, take, drop, set, sym, refl, ap, ◌∙◌, ap₂, add-zero, add_assoc, add-one, arith}
-use Rattle.std.proofs.lemmas.List.{append_assoc, append-nil, drop_at, drop-drop, length-append, length-take-le, length-drop, set_split, take-append-drop, take_at}
+use Rattle.std.proofs.Common.{◌≡◌, ℕ, zero, suc, ◌+◌, ◌<◌, ◌≤◌, List, [], ◌∷◌, ◌++◌, length, take, drop, set, sym, ap, ◌∙◌, ap₂, subst, add_assoc, add-one, arith}
+use Rattle.std.proofs.lemmas.List.{append_assoc, append-nil, drop_at, drop-drop, length-append, length-take-le, length-drop, set_split, take_at}
 use Rattle.dictionary.specs.Printing.{over}
+use Rattle.dictionary.specs.Writing.{Wrote}
+use Rattle.dictionary.specs.declared.writer.Writer.{Writer}
 use Rattle.dictionary.proofs.Texts.{gap}
 
-pub over_none : (xs : List ℕ) (place : ℕ) → over xs place [] ≡ xs
-over_none xs place = ap (λ n. take place xs ++ drop n xs) (add-zero place) ∙ take-append-drop place xs
-
-pub over_length : (xs : List ℕ) (place : ℕ) (ys : List ℕ) → place + length ys ≤ length xs → length (over xs place ys) ≡ length xs
+over_length : (xs : List ℕ) (place : ℕ) (ys : List ℕ) → place + length ys ≤ length xs → length (over xs place ys) ≡ length xs
 over_length xs place ys h =
     let a = length-append (take place xs) (ys ++ drop (place + length ys) xs) in
     let b = length-append ys (drop (place + length ys) xs) in
@@ -17,7 +16,7 @@ over_length xs place ys h =
     omega arith
 
 -- one part behind another
-pub over_over : (xs : List ℕ) (place : ℕ) (ys zs : List ℕ) → place + (length ys + length zs) ≤ length xs → over (over xs place ys) (place + length ys) zs ≡ over xs place (ys ++ zs)
+over_over : (xs : List ℕ) (place : ℕ) (ys zs : List ℕ) → place + (length ys + length zs) ≤ length xs → over (over xs place ys) (place + length ys) zs ≡ over xs place (ys ++ zs)
 over_over xs place ys zs h =
     let front = take place xs ++ ys in
     let rest = drop (place + length ys) xs in
@@ -49,34 +48,44 @@ module _ (xs : List ℕ) (place : ℕ) (t now : List ℕ) (end : ℕ) (so_far : 
       let k : length now ≡ length xs = ap length so_far ∙ over_length xs place t (omega arith) in
       then_part (y ∷ []) (set now end y) h (over_one now end y (omega arith))
 
+-- what a writer writes
+module _ (a b : Writer) (t : List ℕ) (w : Wrote a b t) where
+  -- the room that is left behind a part
+  pub wrote_room : (k : ℕ) → a.place + (length t + k) ≤ length a.out.now → b.place + k ≤ length b.out.now
+  wrote_room k h =
+      let l = ap length w.written ∙ over_length a.out.now a.place t (omega arith) in
+      let e = w.behind in
+      omega arith
+
+  -- a part more
+  pub wrote_more : (c : Writer) (u : List ℕ) → a.place + (length t + length u) ≤ length a.out.now → Wrote b c u → Wrote a c (t ++ u)
+  wrote_more c u h v = record {
+    same_buffer = v.same_buffer ∙ w.same_buffer;
+    written = then_part a.out.now a.place t b.out.now b.place w.written w.behind u c.out.now h v.written;
+    behind = let e = w.behind in let k = v.behind in let l = length-append t u in omega arith;
+  }
+
+  -- a comma, unless what follows is the first
+  pub comma_written : (c : Writer) (i : ℕ) → 0 < i → a.place + (length t + 1) ≤ length a.out.now → Wrote b c (44 ∷ []) → Wrote a c (t ++ gap i)
+  comma_written c zero h k v = absurd (omega arith)
+  comma_written c (suc i) h k v = wrote_more c (44 ∷ []) k v
+
+  pub comma_left_out : (i : ℕ) → i ≤ 0 → Wrote a b (t ++ gap i)
+  comma_left_out zero h = subst (Wrote a b) (sym (append-nil t)) w
+  comma_left_out (suc i) h = absurd (omega arith)
+
 -- a text in its bracket
-pub whole : (xs : List ℕ) (place : ℕ) (a b first last : List ℕ) (bar close : ℕ) → place + (3 + (length a + length b)) ≤ length xs
-    → bar ≡ place + 1 + length a → first ≡ over (set xs place 123) (place + 1) a
-    → close ≡ bar + 1 + length b → last ≡ over (set first bar 124) (bar + 1) b
-    → set last close 125 ≡ over xs place (123 ∷ (a ++ (124 ∷ (b ++ 125 ∷ []))))
-whole xs place a b first last bar close h e f p q =
-    let s₀ : set xs place 123 ≡ over xs place (123 ∷ []) = over_one xs place 123 (omega arith) in
-    let s₁ : first ≡ over xs place (123 ∷ a) = then_part xs place (123 ∷ []) (set xs place 123) (place + 1) s₀ refl a first (omega arith) f in
-    let s₂ : set first bar 124 ≡ over xs place ((123 ∷ a) ++ 124 ∷ []) = then_byte xs place (123 ∷ a) first bar s₁ (omega arith) 124 (omega arith) in
-    let l = length-append (123 ∷ a) (124 ∷ []) in
-    let t₃ = ((123 ∷ a) ++ 124 ∷ []) ++ b in
-    let s₃ : last ≡ over xs place t₃ = then_part xs place ((123 ∷ a) ++ 124 ∷ []) (set first bar 124) (bar + 1) s₂ (omega arith) b last (omega arith) q in
-    let m = length-append ((123 ∷ a) ++ 124 ∷ []) b in
-    let s₄ : set last close 125 ≡ over xs place (t₃ ++ 125 ∷ []) = then_byte xs place t₃ last close s₃ (omega arith) 125 (omega arith) in
-    s₄ ∙ ap (over xs place) (append_assoc ((123 ∷ a) ++ 124 ∷ []) b (125 ∷ []) ∙ append_assoc (123 ∷ a) (124 ∷ []) (b ++ 125 ∷ []))
-
--- a comma, unless what follows is the first
-module _ (xs : List ℕ) (place : ℕ) (t now : List ℕ) (end i : ℕ) (so_far : now ≡ over xs place t) (at_end : end ≡ place + length t) where
-  pub comma_written : 0 < i → place + (length t + 1) ≤ length xs → (set now end 44 ≡ over xs place (t ++ gap i)) × (end + 1 ≡ place + length (t ++ gap i))
-  comma_written = after i
-    where
-      after : (i : ℕ) → 0 < i → place + (length t + 1) ≤ length xs → (set now end 44 ≡ over xs place (t ++ gap i)) × (end + 1 ≡ place + length (t ++ gap i))
-      after zero h k = absurd (omega arith)
-      after (suc i) h k = (then_byte xs place t now end so_far at_end 44 k, let l = length-append t (44 ∷ []) in omega arith)
-
-  pub comma_left_out : i ≤ 0 → (now ≡ over xs place (t ++ gap i)) × (end ≡ place + length (t ++ gap i))
-  comma_left_out = after i
-    where
-      after : (i : ℕ) → i ≤ 0 → (now ≡ over xs place (t ++ gap i)) × (end ≡ place + length (t ++ gap i))
-      after zero h = (so_far ∙ ap (over xs place) (sym (append-nil t)), at_end ∙ ap (λ u. place + length u) (sym (append-nil t)))
-      after (suc i) h = absurd (omega arith)
+module _ (a b₁ b₂ b₃ b₄ b₅ : Writer) (l r : List ℕ) (fits : a.place + (3 + (length l + length r)) ≤ length a.out.now)
+    (open_written : Wrote a b₁ (123 ∷ [])) (left_written : Wrote b₁ b₂ l) (bar_written : Wrote b₂ b₃ (124 ∷ [])) (right_written : Wrote b₃ b₄ r) (close_written : Wrote b₄ b₅ (125 ∷ [])) where
+  pub wrote_whole : Wrote a b₅ (123 ∷ (l ++ (124 ∷ (r ++ 125 ∷ []))))
+  wrote_whole =
+      let t₂ = 123 ∷ l in
+      let w₂ : Wrote a b₂ t₂ = wrote_more a b₁ (123 ∷ []) open_written b₂ l (omega arith) left_written in
+      let t₃ = t₂ ++ 124 ∷ [] in
+      let w₃ : Wrote a b₃ t₃ = wrote_more a b₂ t₂ w₂ b₃ (124 ∷ []) (omega arith) bar_written in
+      let n₃ = length-append t₂ (124 ∷ []) in
+      let t₄ = t₃ ++ r in
+      let w₄ : Wrote a b₄ t₄ = wrote_more a b₃ t₃ w₃ b₄ r (omega arith) right_written in
+      let n₄ = length-append t₃ r in
+      let w₅ : Wrote a b₅ (t₄ ++ 125 ∷ []) = wrote_more a b₄ t₄ w₄ b₅ (125 ∷ []) (omega arith) close_written in
+      subst (Wrote a b₅) (append_assoc t₃ r (125 ∷ []) ∙ append_assoc t₂ (124 ∷ []) (r ++ 125 ∷ [])) w₅

@@ -1,16 +1,13 @@
 -- A pair of sets that was sealed to a node is sealed to it again, however many rows are added behind.
 -- Assumes nothing.
-use Rattle.std.proofs.Common.{◌≡◌, ℕ, Bool, true, false, cond, is_ok, ◌<◌, ◌≤◌, ◌⊎◌, List, [], ◌∷◌, ◌++◌, length, sym, refl, ap, ◌∙◌, subst, inl, inr, arith}
-use Rattle.games.specs.declared.side.Side.{Side}
-use Rattle.games.specs.Form.{Form}
-use Rattle.games.specs.Numbered.{Lists, form_by, list_of}
+use Rattle.std.proofs.Common.{◌≡◌, ℕ, Bool, true, false, cond, is_ok, ◌<◌, ◌⊎◌, [], ◌∷◌, ◌++◌, length, sym, refl, ◌∙◌, subst, inl, inr, arith}
+use Rattle.games.specs.Numbered.{Lists, form_by}
 use Rattle.games.specs.Order.{◌≈◌}
-use Rattle.games.proofs.Order.{≈_sym}
 use Rattle.nodesets.specs.Pairs.{Sets}
 use Rattle.sealing.specs.Remembering.{Remembers, Same}
 use Rattle.sealing.specs.declared.recent.Recent.{Recent}
 use Rattle.stores.specs.Rows.{append_answer, append_rows}
-use Rattle.calls.specs.Answers.{Answer, told, refused}
+use Rattle.calls.specs.Answers.{Answer, told}
 use Rattle.calls.specs.Rows.{Below, Rows, node, first}
 use Rattle.calls.specs.Sealing.{Seals, SealsNumbers, found}
 use Rattle.calls.proofs.Entering.{all_less, seals_grows}

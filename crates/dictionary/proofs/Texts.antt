@@ -1,9 +1,8 @@
 -- The text of a node, of its options, and of the first options of a list.
 -- Assumes nothing.
 use Rattle.std.proofs.Common.{◌≡◌, ℕ, zero, suc, ◌+◌, ◌<◌, ◌≤◌, min, ◌⊎◌, List, [], ◌∷◌, ◌++◌, map, length, get_or, take, drop, Some, None, Option, sym, refl, ap, ◌∙◌, ⊎_elim, arith}
-use Rattle.std.specs.List.{slice_get}
 use Rattle.std.proofs.ByRecursion.{All-from_get_or}
-use Rattle.std.proofs.lemmas.List.{append-nil, append_assoc, get_or_past, length-append, map-append, take_all, take-append-drop, take_more}
+use Rattle.std.proofs.lemmas.List.{append-nil, append_assoc, get_or_past, length-append, map-append, take-append-drop, take_more}
 use Rattle.std.proofs.lemmas.Bool.{cases_lt}
 use Rattle.games.specs.declared.side.Side.{Side}
 use Rattle.games.specs.declared.side.Side.TheVariants.{Left, Right}
@@ -11,7 +10,7 @@ use Rattle.std.specs.Option.{SomeIff}
 use Rattle.games.specs.Form.{Form, Forms, ∅, ◌&◌, ◌⧺◌}
 use Rattle.games.specs.Numbered.{Lists, list_of, each, form_by}
 use Rattle.games.specs.Text.{byte, comma, close_mark, bar, text, texts, more, bytes}
-use Rattle.rulesets.proofs.Positions.{nth_some}
+use Rattle.rulesets.proofs.Positions.{left_some, nth_some}
 use Rattle.stores.specs.Rows.{Lawful, row_at}
 use Rattle.calls.specs.Rows.{Rows, Below, node}
 use Rattle.calls.proofs.Evaluating.{each_++}
@@ -113,26 +112,30 @@ abbrev pub before : Rows → Side → ℕ → ℕ → List ℕ
 before rows s n i = written (node rows) (take i (list_of s (row_at rows n)))
 
 module _ (rows : Rows) (room : ℕ) (law : Lawful rows room) (s : Side) (n : ℕ) where
-  module _ (i y : ℕ) (there : Some y ≡ slice_get (list_of s (row_at rows n)) i) where
+  module _ (i y : ℕ) (rest : List ℕ) (there : drop i (list_of s (row_at rows n)) ≡ y ∷ rest) where
+    at_index : (i < length (list_of s (row_at rows n))) × (get_or (list_of s (row_at rows n)) i 0 ≡ y)
+    at_index = let xs = list_of s (row_at rows n) in nth_some xs i y (left_some xs i y rest there).0
+
     -- an option has a lower number
     pub option_falls : y < n
     option_falls =
-        let (h, e) = nth_some (list_of s (row_at rows n)) i y there in
+        let (h, e) = at_index in
         let k = law.lower s n i h in
         omega arith
 
     -- the text grows by an option's, behind a comma unless it is the first
     pub before_more : before rows s n (i + 1) ≡ before rows s n i ++ (gap i ++ bytes (node rows y))
-    before_more = let (h, e) = nth_some (list_of s (row_at rows n)) i y there in written_more (node rows) (list_of s (row_at rows n)) i y h e
+    before_more = let (h, e) = at_index in written_more (node rows) (list_of s (row_at rows n)) i y h e
 
     pub before_longer : length (before rows s n (i + 1)) ≡ length (before rows s n i) + (min i 1 + length (bytes (node rows y)))
-    before_longer = let (h, e) = nth_some (list_of s (row_at rows n)) i y there in length_more (node rows) (list_of s (row_at rows n)) i y h e
+    before_longer = let (h, e) = at_index in length_more (node rows) (list_of s (row_at rows n)) i y h e
+
+    -- the options behind it are left
+    pub then_left : rest ≡ drop (i + 1) (list_of s (row_at rows n))
+    then_left = (left_some (list_of s (row_at rows n)) i y rest there).1
 
   pub before_short : (i : ℕ) → length (before rows s n i) ≤ length (options_text rows s n)
   before_short i = written_front (node rows) (list_of s (row_at rows n)) i
-
-  pub before_all : (i : ℕ) → length (list_of s (row_at rows n)) ≤ i → before rows s n i ≡ options_text rows s n
-  before_all i h = ap (written (node rows)) (take_all i (list_of s (row_at rows n)) h)
 
 -- what is left of a budget, in other words
 pub checked_as : (r : Option ℕ) (a b : ℕ) (P Q : Type 0) → (P → Q) → (Q → P) → (P → a ≡ b) → SomeIff r P a → SomeIff r Q b

@@ -3,3 +3,4 @@ pub mod Holding
 pub mod Kept
 pub mod Settled
 pub mod Printing
+pub mod Writing

@@ -7,3 +7,4 @@ pub mod fault;
 pub mod frozen;
 pub mod print;
 pub mod seal;
+mod writer;

@@ -5,11 +5,14 @@ ghost use Rattle.games.specs.Text.{bytes};
 ghost use Rattle.calls.specs.Asking.{text_length};
 ghost use Rattle.calls.specs.Rows.{node as form_of};
 ghost use Rattle.dictionary.specs.Faults.{print_answer};
-ghost use Rattle.dictionary.specs.Printing.{PrintSteps, Printed, options_text, over};
+ghost use Rattle.dictionary.specs.Printing.{PrintSteps, Printed, options_text};
+ghost use Rattle.dictionary.specs.Writing.{Wrote};
 
 use crate::dictionary::Dictionary;
 use crate::fault::PrintFault;
+use crate::writer::Writer;
 use games::side::Side;
+use stores::options::options_of;
 use stores::store::Store;
 
 // The longest text that is printed, in bytes.
@@ -31,49 +34,39 @@ fn spend_options<S: Store>(store: &S, side: Side, node: u16, budget: usize) -> O
     ensures { SomeIff result (length (options_text (S.Store.rows store.now) side node) ≤ budget) (budget - length (options_text (S.Store.rows store.now) side node)) }
 {
     let mut left = budget;
-    for index in 0..store.list_len(side, node) {
-        if let Some(option) = store.option(side, node, index) {
-            // a comma stands before each option but the first
-            let behind = left.checked_sub(index.min(1))?;
-            left = spend(store, option, behind)?;
-        }
+    for (index, option) in options_of(store, side, node).enumerate() {
+        // a comma stands before each option but the first
+        let behind = left.checked_sub(index.min(1))?;
+        left = spend(store, option, behind)?;
     }
     Some(left)
 }
 
-// Writes the text of a node from a place on, and answers the place behind it.
+// Writes the text of a node.
 #[cycle(writing)]
-fn write<S: Store>(store: &S, node: u16, out: &mut [u8], place: usize) -> usize
-    requires { place + text_length (S.Store.rows store.now) node ≤ length out.old }
-    ensures behind { result ≡ place + text_length (S.Store.rows store.now) node }
-    ensures written { out.new ≡ over out.old place (bytes (form_of (S.Store.rows store.now) node)) }
+fn write<S: Store>(store: &S, node: u16, writer: &mut Writer)
+    requires { writer.old.place + text_length (S.Store.rows store.now) node ≤ length writer.old.out.now }
+    ensures { Wrote writer.old writer.new (bytes (form_of (S.Store.rows store.now) node)) }
 {
-    out[place] = b'{';
-    let bar = write_options(store, Side::Left, node, out, place + 1);
-    out[bar] = b'|';
-    let close = write_options(store, Side::Right, node, out, bar + 1);
-    out[close] = b'}';
-    close + 1
+    writer.put(b'{');
+    write_options(store, Side::Left, node, writer);
+    writer.put(b'|');
+    write_options(store, Side::Right, node, writer);
+    writer.put(b'}');
 }
 
 // The same for the options of a side, which commas part.
 #[cycle(writing)]
-fn write_options<S: Store>(store: &S, side: Side, node: u16, out: &mut [u8], place: usize) -> usize
-    requires { place + length (options_text (S.Store.rows store.now) side node) ≤ length out.old }
-    ensures behind { result ≡ place + length (options_text (S.Store.rows store.now) side node) }
-    ensures written { out.new ≡ over out.old place (options_text (S.Store.rows store.now) side node) }
+fn write_options<S: Store>(store: &S, side: Side, node: u16, writer: &mut Writer)
+    requires { writer.old.place + length (options_text (S.Store.rows store.now) side node) ≤ length writer.old.out.now }
+    ensures { Wrote writer.old writer.new (options_text (S.Store.rows store.now) side node) }
 {
-    let mut end = place;
-    for index in 0..store.list_len(side, node) {
-        if let Some(option) = store.option(side, node, index) {
-            if index > 0 {
-                out[end] = b',';
-                end += 1;
-            }
-            end = write(store, option, out, end);
+    for (index, option) in options_of(store, side, node).enumerate() {
+        if index > 0 {
+            writer.put(b',');
         }
+        write(store, option, writer);
     }
-    end
 }
 
 impl<S: Store> Dictionary<S> {
@@ -86,6 +79,8 @@ impl<S: Store> Dictionary<S> {
             return Err(PrintFault::Unknown);
         }
         spend(&self.store, node, out.len().min(LONGEST)).ok_or(PrintFault::Long)?;
-        Ok(write(&self.store, node, out, 0))
+        let mut writer = Writer { out, place: 0 };
+        write(&self.store, node, &mut writer);
+        Ok(writer.place)
     }
 }

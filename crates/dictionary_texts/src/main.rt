@@ -1,19 +1,13 @@
 // A dictionary over each store: a few forms sealed from the nodes before them, their outcomes and texts, and how they compare.
 #![tactic(auto)]
 
-use demos::samples::{FORMS, PAIRS, pair};
+use demos::desk::Detail;
+use demos::forms::seal_forms;
+use demos::samples::PAIRS;
 use demos::shown::{Demo, Shown, begin, over_both};
-use demos::told::{compare, tell_sealed};
-use dictionary::dictionary::Dictionary;
+use demos::told::{compare, print_into};
 use games::side::Side;
 use nodesets::pair::Pair;
-use stores::store::Store;
-
-// How many rows the stores of forms have room for: one fewer than would be wanted.
-const ROWS: usize = 6;
-
-// The size of the buffer that nodes are printed into.
-const BUFFER: usize = 16;
 
 // How many heaps of nim are sealed, and how long the text of the last is: 3 marks more than twice those of all smaller ones with their commas.
 const HEAPS: usize = 10;
@@ -24,14 +18,8 @@ struct Texts;
 
 impl Demo for Texts {
     fn over<S: Shown>(&self, rt: &HostRuntime) -> anyhow::Result<()> {
-        if let Ok(mut dictionary) = begin::<S>(rt.alloc(), ROWS) {
-            println!(rt; "over {} of {ROWS} rows", S::NAME)?;
-            forms(rt, &mut dictionary)?;
-        }
-        if let Ok(mut dictionary) = begin::<S>(rt.alloc(), HEAPS) {
-            heaps(rt, &mut dictionary)?;
-        }
-        Ok(())
+        forms::<S>(rt)?;
+        heaps::<S>(rt)
     }
 }
 
@@ -39,40 +27,19 @@ fn main(rt: HostRuntime) -> anyhow::Result<()> {
     over_both(&rt, &Texts)
 }
 
-fn forms<S: Store>(rt: &HostRuntime, dictionary: &mut Dictionary<S>) -> anyhow::Result<()> {
-    for (name, left, right) in FORMS {
-        let sealed = dictionary.seal(&pair(left, right));
-        tell_sealed(rt, dictionary, name, sealed)?;
-        if let Ok(node) = sealed {
-            print(rt, dictionary, node, BUFFER)?;
-        }
-    }
+// The sample forms, each with its text, and how they compare.
+fn forms<S: Shown>(rt: &HostRuntime) -> anyhow::Result<()> {
+    let dictionary = seal_forms::<S>(rt, Detail::OutcomeAndText)?;
     // the text of 1 has 6 bytes, and node 6 is unknown
     for (node, room) in [(1, 6), (1, 5), (6, 0)] {
-        print(rt, dictionary, node, room)?;
+        print_into(rt, &dictionary, node, room)?;
     }
-    compare(rt, dictionary, &PAIRS)
-}
-
-// Prints a node into the first bytes of a buffer, as many as there is room for, and shows the whole buffer.
-fn print<S: Store>(
-    rt: &HostRuntime,
-    dictionary: &Dictionary<S>,
-    node: u16,
-    room: usize,
-) -> anyhow::Result<()> {
-    let mut buffer = [b'.'; BUFFER];
-    print!(rt; "  node {node} into {room} bytes: ")?;
-    match dictionary.print(node, &mut buffer[..room.min(BUFFER)]) {
-        Ok(length) => println!(rt; "wrote {length}")?,
-        Err(fault) => println!(rt; "refused with {}", fault.number())?,
-    }
-    println!(rt; "  {}", std::str::from_utf8(&buffer)?)?;
-    Ok(())
+    compare(rt, &dictionary, &PAIRS)
 }
 
 // Heaps of nim, from each of which both sides move to every smaller heap. There is room for every text, but that of the heap of 9 is too long to be printed.
-fn heaps<S: Store>(rt: &HostRuntime, dictionary: &mut Dictionary<S>) -> anyhow::Result<()> {
+fn heaps<S: Shown>(rt: &HostRuntime) -> anyhow::Result<()> {
+    let mut dictionary = begin::<S>(rt.alloc(), HEAPS)?;
     let mut smaller = Pair::default();
     for heap in 0..HEAPS {
         if let Ok(node) = dictionary.seal(&smaller) {

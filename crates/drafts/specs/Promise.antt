@@ -5,8 +5,7 @@ use Rattle.calls.specs.WorkedRun.{WorkedRun}
 
 -- Whatever list of value, first move, read, open, put, seal, abandon and print calls, refused ones among them, takes a new dictionary to where it is,
 -- over any store, with any rulesets, several in one list: an entry's game has one number and one text, and a text that was printed reads back.
--- (What a call may leave is `Call` in Runs. That the code's calls are such calls is said by the clause `step` of open, put, seal, abandon and print,
--- and of value, first move and read by `SealingCallsStep`.)
+-- (What a call may leave is `Call` in Runs. That the code's calls are such calls is said by the clause `step` of each of them.)
 pub record OneGameOneNumberOneText : Type 0 where
   -- no two entries have one number though some starter of their difference can win, or two numbers though none can
   pub numbers : NumbersTellGames

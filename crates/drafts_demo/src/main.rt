@@ -2,7 +2,7 @@
 // and a position whose game was drafted is valued.
 #![tactic(auto)]
 
-use demos::shown::{Demo, Shown, begin, over_both};
+use demos::shown::{Demo, Shown, begin_told, over_both};
 use demos::told::text;
 use dictionary::dictionary::Dictionary;
 use domineering::board::Board;
@@ -36,10 +36,7 @@ struct Drafts;
 
 impl Demo for Drafts {
     fn over<S: Shown>(&self, rt: &HostRuntime) -> anyhow::Result<()> {
-        let Ok(mut dictionary) = begin::<S>(rt.alloc(), ROWS) else {
-            return Ok(());
-        };
-        println!(rt; "over {} of {ROWS} rows", S::NAME)?;
+        let mut dictionary = begin_told::<S>(rt, ROWS)?;
         let mut draft = Draft::new();
         for (name, left, right) in FORMS {
             abandoned(rt, &mut draft, left)?;

@@ -40,11 +40,15 @@ impl<'a> fmt::Display for UsageFault<'a> {
 }
 
 // The store with this name.
-fn named(name: &str) -> Result<Kind, UsageFault<'_>> {
-    match name {
-        "ordered" => Ok(Kind::Ordered),
-        "hashed" => Ok(Kind::Hashed),
-        _ => Err(UsageFault::NoStore(name)),
+impl<'a> TryFrom<&'a str> for Kind {
+    type Error = UsageFault<'a>;
+
+    fn try_from(name: &'a str) -> Result<Kind, UsageFault<'a>> {
+        match name {
+            "ordered" => Ok(Kind::Ordered),
+            "hashed" => Ok(Kind::Hashed),
+            _ => Err(UsageFault::NoStore(name)),
+        }
     }
 }
 
@@ -55,7 +59,7 @@ pub(crate) fn choose<'a>(words: &[&'a str]) -> Result<Choice, UsageFault<'a>> {
     while let Some(word) = rest.next() {
         match *word {
             "--help" => return Ok(Choice::Help),
-            "--store" => chosen = named(rest.next().ok_or(UsageFault::Missing)?)?,
+            "--store" => chosen = Kind::try_from(*rest.next().ok_or(UsageFault::Missing)?)?,
             _ => return Err(UsageFault::Unknown(word)),
         }
     }

@@ -1,6 +1,6 @@
 -- Over the bytes of a text the machine of a line goes where the one of texts does.
 -- Assumes nothing.
-use Rattle.std.proofs.Common.{◌≡◌, ℕ, false, eqb, List, [], ◌∷◌, map, Some, None, Ok, Err, Option, Result, sym, refl, ap, ◌∙◌, ap₂, inl, inr, arith}
+use Rattle.std.proofs.Common.{◌≡◌, ℕ, false, eqb, List, [], ◌∷◌, map, Some, None, Ok, Err, Option, Result, ControlFlow, Continue, Break, sym, refl, ap, ◌∙◌, ap₂, inl, inr, arith}
 use mathlib.Core.Option.{none, some}
 use mathlib.Core.Option as Math
 use Rattle.std.proofs.lemmas.Bool.{ne_eqb}
@@ -99,10 +99,10 @@ module _ (nest : Nest) (b place : ℕ) (q : State) (s : Stands nest q) where
       let d = outer_depth q' in
       (e, (symbol (Start Left) ∷ map symbol (outer_of q'), takes open_mark h ∙ placed q' (Start Left) p, omega arith))
 
-  pub stepped : (r : Result (Option Nest) TextFault) → Stepped q b place r → Walks stack 125 (stack nest) b place r
-  stepped (Ok None) (e, g, d) = (takes close_mark e ∙ ap to_come d, sym e)
-  stepped (Ok (Some n)) (m, e, h) = takes m e ∙ (placed (Reader.next q m) n.spot h.at_spot ∙ ap (λ o. some (symbol n.spot ∷ map symbol o)) (sym h.outside))
-  stepped (Err f) h = refused f h
+  pub stepped : (on : Nest) (r : Result (ControlFlow (Unit {0}) (Unit {0})) TextFault) → Stepped q on b place r → Walks 125 (stack nest) (stack on) b place r
+  stepped on (Ok (Continue u)) (m, e, h) = takes m e ∙ (placed (Reader.next q m) on.spot h.at_spot ∙ ap (λ o. some (symbol on.spot ∷ map symbol o)) (sym h.outside))
+  stepped on (Ok (Break u)) (e, g, d) = (takes close_mark e ∙ ap to_come d, sym e)
+  stepped on (Err f) h = refused f h
 
 pub begins : (nest : Nest) → Stands nest (wants []) → stack nest ≡ text ∷ []
 begins nest s = here nest 0 0 (wants []) s

@@ -1,13 +1,14 @@
 -- The reader on a walk, between its start and the cursor.
 -- Assumes nothing.
-use Rattle.std.proofs.Common.{◌≡◌, ℕ, ◌+◌, ◌<◌, ◌≤◌, List, [], ◌∷◌, ◌++◌, length, get_or, take, drop, sym, refl, ap, ◌∙◌, subst, append_assoc, arith}
+use Rattle.std.proofs.Common.{◌≡◌, ℕ, ◌+◌, ◌<◌, ◌≤◌, true, false, List, [], ◌∷◌, ◌++◌, length, get_or, take, drop, is_some, Ok, ControlFlow, Continue, Break, sym, refl, ap, ◌∙◌, subst, append_assoc, arith}
 use mathlib.Core.Option.{none, some}
+use Rattle.std.specs.ControlFlow.{continue_value}
 use Rattle.std.proofs.lemmas.List.{take_at, length-append, length-drop}
 use Rattle.calls.specs.declared.fault.TextFault.{TextFault}
 use Rattle.calls.specs.declared.fault.TextFault.TheVariants.{WrongByte, EarlyEnd, TooDeep}
 use Rattle.lines.specs.Machine.{Symbol, next, run, step, depth}
 use Rattle.lines.specs.Reading.{Passed, Failed, Walked}
-use Rattle.lines.specs.Walks.{Refused, Ongoing}
+use Rattle.lines.specs.Walks.{Refused, Stepped, Ongoing}
 use Rattle.lines.specs.Questions.{DescribesPart}
 use Rattle.lines.specs.declared.question.Part.{Part}
 use Rattle.lines.specs.declared.reader.Reader.{Reader}
@@ -36,17 +37,23 @@ module _ {b m : Reader} {s s' : List Symbol} (u : Underway b m s s') (a : Reader
     underway_refused (TooDeep i) o (e, (s'', n, d)) =
         subst (λ z. Failed b a s (TooDeep z)) (sym e) (failed_after u.went (failed_deep m a byte within here s' s'' same n d))
 
-    abbrev pub underway_more : (s'' : List Symbol) → a.at ≡ m.at + 1 → next s' byte ≡ some s'' → depth s'' ≤ 96 → Underway b a s s''
-    underway_more s'' on e d = record {
+    abbrev on_to : (s'' : List Symbol) → a.at ≡ m.at + 1 → next s' byte ≡ some s'' → depth s'' ≤ 96 → Underway b a s s''
+    on_to s'' on e d = record {
       passed = u.passed ++ (byte ∷ []);
       went = passed_++ u.went (passed_one m a byte within here s' s'' same on e d);
       ran = run_++ (some s) u.passed (byte ∷ []) ∙ (ap (λ q. step q byte) u.ran ∙ e);
     }
 
-    pub underway_end : (last : ℕ) → a.at ≡ m.at + 1 → next s' byte ≡ some [] → byte ≡ last → (w : List ℕ) × Passed b a s [] w × Walked s last w
-    underway_end last on e closes =
-        let v = underway_more [] on e (omega arith) in
-        (v.passed, v.went, (u.passed, ap (λ z. u.passed ++ (z ∷ [])) closes, v.ran))
+    module _ (last : ℕ) (s'' : List Symbol) (on : a.at ≡ m.at + 1) where
+      pub underway_more : (f : ControlFlow (Unit {0}) (Unit {0})) → Stepped last s' s'' byte m.at (Ok f) → true ≡ is_some (continue_value f) → depth s'' ≤ 96 → Underway b a s s''
+      underway_more (Continue v) e w d = on_to s'' on e d
+      underway_more (Break v) e w d = let z : ◌≡◌ {A = ℕ} 0 1 = cc in absurd (omega arith)
+
+      pub underway_end : (f : ControlFlow (Unit {0}) (Unit {0})) → Stepped last s' s'' byte m.at (Ok f) → false ≡ is_some (continue_value f) → (w : List ℕ) × Passed b a s [] w × Walked s last w
+      underway_end (Continue v) e w = let z : ◌≡◌ {A = ℕ} 0 1 = cc in absurd (omega arith)
+      underway_end (Break v) (e, closes) w =
+          let r = on_to [] on e (omega arith) in
+          (r.passed, r.went, (u.passed, ap (λ z. u.passed ++ (z ∷ [])) closes, r.ran))
 
 -- what has been passed, as a part of the line
 module _ {b a : Reader} {s s' : List Symbol} (w : List ℕ) (p : Passed b a s s' w) where

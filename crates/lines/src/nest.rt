@@ -5,6 +5,7 @@ ghost use Rattle.lines.specs.WalksLemmas.{nest_ongoing};
 use crate::walk::Walk;
 use calls::fault::TextFault;
 use calls::nest::Nest;
+use std::ops::ControlFlow;
 
 impl Walk for Nest {
     ghost stack = { stack };
@@ -13,7 +14,7 @@ impl Walk for Nest {
 
     ghost ongoing = { nest_ongoing };
 
-    fn step(self, byte: u8, place: usize) -> Result<Option<Nest>, TextFault> {
+    fn step(&mut self, byte: u8, place: usize) -> Result<ControlFlow<()>, TextFault> {
         self.take(byte, place)
     }
 }

@@ -85,9 +85,7 @@ impl<'a> Reader<'a> {
     fn keyword<K: Keyword>(&mut self) -> Result<K, TextFault>
         ensures { Takes self.old self.new (K.symbol ∷ []) K.rest (λ keyword w. w ≡ K.spelt keyword) result }
     {
-        let Some(keyword) = K::from_letter(self.peek()?) else {
-            return Err(TextFault::WrongByte(self.at));
-        };
+        let keyword = K::from_letter(self.peek()?).ok_or(TextFault::WrongByte(self.at))?;
         self.at += 1;
         self.spell(&keyword.word()[1..])?;
         Ok(keyword)
@@ -98,8 +96,7 @@ impl<'a> Reader<'a> {
         ensures { Reads self.old self.new (W.stack start) (λ _ w. Walked (W.stack start) W.last w) result }
     {
         let mut walk = start;
-        while let Some(next) = walk.step(self.peek()?, self.at)? {
-            walk = next;
+        while walk.step(self.peek()?, self.at)?.is_continue() {
             self.at += 1;
         }
         self.at += 1;

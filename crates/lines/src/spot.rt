@@ -5,6 +5,7 @@ ghost use Rattle.lines.specs.WalksLemmas.{spot_ongoing};
 
 use crate::walk::Walk;
 use calls::fault::TextFault;
+use std::ops::ControlFlow;
 
 // In an edge; behind a vertex 0 there is no further digit.
 #[derive(Clone, Copy, Debug, PartialEq, Eq)]
@@ -34,24 +35,26 @@ impl Walk for Spot {
 
     ghost ongoing = { spot_ongoing };
 
-    fn step(self, byte: u8, place: usize) -> Result<Option<Spot>, TextFault> {
-        let spot = match (self, byte) {
+    fn step(&mut self, byte: u8, place: usize) -> Result<ControlFlow<()>, TextFault> {
+        if let Spot::Edge(spot) = self {
+            return spot.step(byte, place);
+        }
+        *self = match (*self, byte) {
             (Spot::Square | Spot::MoreSquares, b'.' | b'#') => Spot::MoreSquares,
             (Spot::MoreSquares, b'/') => Spot::Square,
             (Spot::Cell | Spot::MoreCells, b'T' | b'F' | b'.') => Spot::MoreCells,
-            (Spot::MoreSquares | Spot::MoreCells, b')') => return Ok(None),
-            (Spot::Edge(spot), byte) => return spot.step(byte, place),
+            (Spot::MoreSquares | Spot::MoreCells, b')') => return Ok(ControlFlow::Break(())),
             _ => return Err(TextFault::WrongByte(place)),
         };
-        Ok(Some(spot))
+        Ok(ControlFlow::Continue(()))
     }
 }
 
 impl EdgeSpot {
-    fn step(self, byte: u8, place: usize) -> Result<Option<Spot>, TextFault>
-        ensures { Stepped symbols 41 (edge_symbols self) byte place result }
+    fn step(&mut self, byte: u8, place: usize) -> Result<ControlFlow<()>, TextFault>
+        ensures { Stepped 41 (edge_symbols self.old) (edge_symbols self.new) byte place result }
     {
-        let spot = match (self, byte) {
+        *self = match (*self, byte) {
             (EdgeSpot::From, b'0') => EdgeSpot::Dash,
             (EdgeSpot::From, b'1'..=b'9') => EdgeSpot::FromDigits,
             (EdgeSpot::FromDigits, b'0'..=b'9') => EdgeSpot::FromDigits,
@@ -61,9 +64,9 @@ impl EdgeSpot {
             (EdgeSpot::ToDigits, b'0'..=b'9') => EdgeSpot::ToDigits,
             (EdgeSpot::ToDigits | EdgeSpot::Colour, b'L' | b'R' | b'B') => EdgeSpot::MoreEdges,
             (EdgeSpot::MoreEdges, b',') => EdgeSpot::From,
-            (EdgeSpot::MoreEdges, b')') => return Ok(None),
+            (EdgeSpot::MoreEdges, b')') => return Ok(ControlFlow::Break(())),
             _ => return Err(TextFault::WrongByte(place)),
         };
-        Ok(Some(Spot::Edge(spot)))
+        Ok(ControlFlow::Continue(()))
     }
 }

@@ -4,6 +4,7 @@ ghost use Rattle.lines.specs.Machine.{Symbol};
 ghost use Rattle.lines.specs.Walks.{Ongoing, Stepped};
 
 use calls::fault::TextFault;
+use std::ops::ControlFlow;
 
 // Where a reader stands between two of the bytes.
 pub trait Walk: Drop {
@@ -12,9 +13,9 @@ pub trait Walk: Drop {
 
     ghost last: { ℕ };
 
-    // Where the byte leads, `None` for the last one; or its fault, the byte standing at the place.
-    fn step(self, byte: u8, place: usize) -> Result<Option<Self>, TextFault>
-        ensures { Stepped stack last (stack self) byte place result };
+    // Goes on where the byte leads, or ends behind the last one; or its fault, the byte standing at the place.
+    fn step(&mut self, byte: u8, place: usize) -> Result<ControlFlow<()>, TextFault>
+        ensures { Stepped last (stack self.old) (stack self.new) byte place result };
 
     ghost ongoing: { (walk : Self) → Ongoing (stack walk) };
 }

@@ -1,7 +1,6 @@
 // A memory of numbers by codes.
 ghost use Rattle.std.specs.Prelude.{ℕ};
 ghost use Rattle.memory.specs.Memories.{Holds, HoldsLess, HoldsOf};
-ghost use Rattle.memory.specs.Holds.{More, Recalls};
 
 use crate::direct::Direct;
 use crate::notes::Notes;
@@ -48,21 +47,6 @@ impl Memory {
             .ok()
             .filter(|codes| *codes <= MOST_CODES);
         self.table = Table::Hashed(Slots::new(self.heap));
-    }
-
-    // The number that was noted for the code, if it is still known.
-    pub fn recall(&self, code: u64) -> Option<u16>
-        ensures { Recalls (λ n. Holds self.now code n) result }
-    {
-        self.table.recall(code)
-    }
-
-    // Notes the number for the code.
-    pub fn note(&mut self, code: u64, number: u16)
-        ensures { More (Holds self.old) code number (Holds self.new) }
-    {
-        self.make_room();
-        self.table.note(code, number);
     }
 
     // A larger table takes over from a crowded one, if there is memory for it.
@@ -119,10 +103,11 @@ impl Notes for Memory {
     ghost holds = { λ memory code n. Holds memory code n };
 
     fn recall(&self, code: u64) -> Option<u16> {
-        Memory::recall(self, code)
+        self.table.recall(code)
     }
 
     fn note(&mut self, code: u64, number: u16) {
-        Memory::note(self, code, number);
+        self.make_room();
+        self.table.note(code, number);
     }
 }

@@ -63,13 +63,10 @@ impl Slots {
     {
         let last = self.slots.len().checked_sub(1)?;
         let home = self.home(code);
-        for tried in home..home + TRIES {
-            let place = tried & last;
-            if self.slots[place].suits(code) {
-                return Some(place);
-            }
-        }
-        Some(home & last)
+        (home..home + TRIES)
+            .map(|tried| tried & last)
+            .find(|place| self.slots[*place].suits(code))
+            .or(Some(home & last))
     }
 
     // Notes in another table what this one holds.

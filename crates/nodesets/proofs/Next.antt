@@ -106,6 +106,10 @@ lowest_common p q both (Some r) e past h =
     let t = and_parts (p r) (q r) (sym (e r) ∙ h.here) in
     (t.0, t.1, λ j l (a, b). both_ways _ (h.passed j (omega arith) l) (e j ∙ and_from _ _ a b))
 
+-- where there is no next number from 0 on, there is none
+pub none_next : (p : ℕ → Bool) → ((k : ℕ) → 384 ≤ k → p k ≡ false) → Next p 0 None → (k : ℕ) → p k ≡ false
+none_next p past h k = elim (cases_lt k 384) [ inl l ↦ h k (omega arith) l | inr l ↦ past k l ]
+
 -- a set has no number from n on exactly when there is no next one
 pub below_by_next : (p : ℕ → Bool) (n : ℕ) (r : Option ℕ) (b : Bool) → is_some r ≡ not b → ((k : ℕ) → 384 ≤ k → p k ≡ false) → Next p n r → Decides b ((k : ℕ) → p k ≡ true → k < n)
 below_by_next p n None false e past h = absurd (false≢true e)

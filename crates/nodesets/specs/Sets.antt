@@ -1,6 +1,6 @@
 -- Sets of numbers below 384 as six words of 64 bits.
 -- Assumes nothing.
-use Rattle.std.specs.Prelude.{◌≡◌, ℕ, ◌/◌, ◌%◌, ◌<◌, ◌≤◌, Bool, true, false, List, slice_index, Option, MatchOption}
+use Rattle.std.specs.Prelude.{◌≡◌, ℕ, ◌/◌, ◌%◌, ◌<◌, ◌≤◌, Bool, true, false, not, ◌&&◌, ◌==◌, List, slice_index, Option, MatchOption}
 use Rattle.bits.specs.Bits.{bit}
 use Rattle.nodesets.specs.declared.nodeset.NodeSet.{NodeSet}
 
@@ -33,3 +33,9 @@ pub record First (p : ℕ → Bool) (start r : ℕ) : Type 0 where
 
 abbrev pub Next : (ℕ → Bool) → ℕ → Option ℕ → Type 0
 Next p start r = MatchOption r ((k : ℕ) → start ≤ k → k < 384 → p k ≡ false) (First p start)
+
+-- the lowest number of p is r, and q is p without it; none where p has no number
+abbrev pub TakesLowest : (ℕ → Bool) → (ℕ → Bool) → Option ℕ → Type 0
+TakesLowest p q r =
+    MatchOption r (((k : ℕ) → p k ≡ false) × ((k : ℕ) → q k ≡ false))
+    (λ k. (p k ≡ true) × ((j : ℕ) → j < k → p j ≡ false) × ((j : ℕ) → q j ≡ (p j && not (j == k))))

@@ -18,12 +18,11 @@ use Rattle.calls.proofs.Bracketed.{outside, put_outside}
 use Rattle.calls.proofs.LookUp.{looking_up_has_one_outcome, look_up_finds_the_nodes}
 use Rattle.calls.proofs.LookedUp.{LookedUp, look_begins, look_opens, look_bars, look_commas, look_closes, look_ends, look_misses}
 use Rattle.calls.proofs.Texts.{no_fault}
-use Rattle.reading.specs.declared.fault.LookUpFault.{LookUpFault}
-use Rattle.reading.specs.declared.fault.LookUpFault.TheVariants.{Missing, Text}
+use Rattle.reading.specs.declared.fault.FormFault.TheVariants.{Text}
 use Rattle.calls.specs.declared.fault.TextFault.{TextFault}
 use Rattle.calls.specs.Faults.{number_of, place_of}
-use Rattle.reading.specs.Faults.{look_up_answer}
-use Rattle.reading.specs.Found.{Found, FindsNodes}
+use Rattle.reading.specs.Faults.{LookUpFault, look_up_answer}
+use Rattle.reading.specs.Found.{Found, FindsNodes, missing}
 use Rattle.reading.specs.Walked.{Walk, Walked}
 use Rattle.reading.proofs.Cut.{lists, cut_found}
 
@@ -41,27 +40,27 @@ module _ (rows : Rows) (room : ℕ) (law : Lawful rows room) where
       omega arith
 
 -- a bracket is found
-pub found_at : (rows : Rows) (room : ℕ) → Lawful rows room → (l : Lists) (p : ℕ) (o : Option ℕ) (r : Result ℕ LookUpFault) → o ≡ lowest rows l → r ≡ ok_or o (Missing p) → Sound rows → Found rows l p r rows × IfOk r (λ n. n < 384)
-found_at rows room law l p o r e is s = (record { is = is ∙ ap (λ x. ok_or x (Missing p)) e; rows = refl; sound = s }, subst (λ x. IfOk x (λ n. n < 384)) (sym is) (small o e))
+pub found_at : (rows : Rows) (room : ℕ) → Lawful rows room → (l : Lists) (p : ℕ) (o : Option ℕ) (r : Result ℕ LookUpFault) → o ≡ lowest rows l → r ≡ ok_or o (missing p) → Sound rows → Found rows l p r rows × IfOk r (λ n. n < 384)
+found_at rows room law l p o r e is s = (record { is = is ∙ ap (λ x. ok_or x (missing p)) e; rows = refl; sound = s }, subst (λ x. IfOk x (λ n. n < 384)) (sym is) (small o e))
   where
-    small : (o : Option ℕ) → o ≡ lowest rows l → IfOk {E = LookUpFault} (ok_or o (Missing p)) (λ n. n < 384)
+    small : (o : Option ℕ) → o ≡ lowest rows l → IfOk {E = LookUpFault} (ok_or o (missing p)) (λ n. n < 384)
     small (Some n) h = found_small rows room law l n h
     small None h = tt
 
 -- what is found where a number is told, and where there is a fault
 module _ (rows : Rows) (l : Lists) (p : ℕ) where
-  found_ok : (r : Option ℕ) (n : ℕ) → Ok n ≡ ok_or r (Missing p) → r ≡ Some n
+  found_ok : (r : Option ℕ) (n : ℕ) → Ok n ≡ ok_or r (missing p) → r ≡ Some n
   found_ok (Some m) n e = let same : m ≡ n = cc in ap Some same
   found_ok None n e = let z : ◌≡◌ {A = ℕ} 0 1 = cc in absurd (omega arith)
 
-  found_err : (r : Option ℕ) (e : LookUpFault) → Err e ≡ ok_or r (Missing p) → (r ≡ None) × (e ≡ Missing p)
+  found_err : (r : Option ℕ) (e : LookUpFault) → Err e ≡ ok_or r (missing p) → (r ≡ None) × (e ≡ missing p)
   found_err (Some m) e h = let z : ◌≡◌ {A = ℕ} 0 1 = cc in absurd (omega arith)
   found_err None e h = (refl, cc)
 
-  finds_one : (n : ℕ) → Ok n ≡ ok_or (lowest rows l) (Missing p) → Finds rows l (Some n)
+  finds_one : (n : ℕ) → Ok n ≡ ok_or (lowest rows l) (missing p) → Finds rows l (Some n)
   finds_one n e = subst (Finds rows l) (found_ok (lowest rows l) n e) (lowest_finds rows l)
 
-  finds_not : (e : LookUpFault) → Err e ≡ ok_or (lowest rows l) (Missing p) → Finds rows l None × (e ≡ Missing p)
+  finds_not : (e : LookUpFault) → Err e ≡ ok_or (lowest rows l) (missing p) → Finds rows l None × (e ≡ missing p)
   finds_not e h = let (a, b) = found_err (lowest rows l) e h in (subst (Finds rows l) a (lowest_finds rows l), b)
 
 -- closing goes by the rows of what is closed with
@@ -99,7 +98,7 @@ module _ {C : Type 0} (rows_of : C → Rows) where
       let (f, named) = finds_not (rows_of b) l (length ms) e s.is in
       record {
         looks = subst (λ h. LooksUp (rows_of start) t (look_up_answer (Err h))) (sym named)
-            (subst (λ r. LooksUp r t (look_up_answer (Err (Missing (length ms))))) x.rows (look_misses (rows_of b) t g ms rest l ls s.sound v split x.looked f));
+            (subst (λ r. LooksUp r t (look_up_answer (Err (missing (length ms))))) x.rows (look_misses (rows_of b) t g ms rest l ls s.sound v split x.looked f));
         sound = subst Sound x.rows s.sound;
       }
 

@@ -6,9 +6,10 @@ use Rattle.games.specs.Form.{Form}
 use Rattle.games.specs.Numbered.{Lists}
 use Rattle.games.specs.Text.{bytes}
 use Rattle.games.proofs.Reader.{State}
-use Rattle.calls.specs.Answers.{told, refused_at}
+use Rattle.calls.specs.Answers.{Answer, told, refused_at}
 use Rattle.calls.specs.Entering.{Entry, entry, Enters}
 use Rattle.calls.specs.Reading.{Reads}
+use Rattle.calls.specs.Runs.{Call}
 use Rattle.calls.specs.Rows.{Rows, node}
 use Rattle.calls.specs.Sealing.{SealsNumbers}
 use Rattle.calls.specs.Sound.{Sound}
@@ -19,14 +20,13 @@ use Rattle.calls.proofs.Texts.{no_fault}
 use Rattle.dictionary.specs.declared.fault.DictionaryFault.{DictionaryFault}
 use Rattle.dictionary.specs.Faults.{answer_of, number_of}
 use Rattle.dictionary.specs.Holding.{Holding}
-use Rattle.reading.specs.declared.fault.ReadFault.{ReadFault}
-use Rattle.reading.specs.declared.fault.ReadFault.TheVariants.{Text, Bracket}
+use Rattle.reading.specs.declared.fault.FormFault.TheVariants.{Text, Bracket}
 use Rattle.calls.specs.declared.fault.TextFault.{TextFault}
 use Rattle.calls.specs.Faults.{place_of}
-use Rattle.reading.specs.Faults.{read_answer}
+use Rattle.reading.specs.Faults.{ReadFault, read_answer}
 use Rattle.calls.specs.Faults
 use Rattle.reading.specs.Sealed.{Closed, placed}
-use Rattle.reading.specs.TextRead.{ReadsBack, TextRead}
+use Rattle.reading.specs.TextRead.{ReadSteps, ReadsBack, TextRead}
 use Rattle.reading.specs.Walked.{Walk, Walked}
 
 -- a bracket is sealed
@@ -112,3 +112,7 @@ reads_back r s x n i e h = let (p, q) = reads_found n s i e h x.holds in (told_o
 -- a text with a fault is no node's
 pub faulty_back : (a : Rows) (t : List ℕ) (r : Result ℕ ReadFault) (f : TextFault) → Fault t (Faults.number_of f) (place_of f) → ReadsBack a t r a
 faulty_back a t r f x n i e h = absurd (no_fault (node a n) (record { by_form = e; shallow = h }) x)
+
+-- what read does makes it a call of a run
+pub read_steps : (capacity : ℕ) (rows : Rows) (t : List ℕ) (a : Answer ℕ) (after : Rows) → TextRead capacity rows t a after → ReadSteps capacity rows t a after
+read_steps capacity rows t a after r p e = (r.entries, r.holds, Call.read t (subst (λ z. Reads capacity z t a after r.entries) (sym e) r.holds))

@@ -8,12 +8,16 @@ use Rattle.stores.specs.Rows.{lowest}
 use Rattle.calls.specs.Rows.{Rows, node}
 use Rattle.calls.specs.Sound.{Sound}
 use Rattle.calls.specs.Texts.{Shallow}
-use Rattle.reading.specs.declared.fault.LookUpFault.{LookUpFault}
-use Rattle.reading.specs.declared.fault.LookUpFault.TheVariants.{Missing}
+use Rattle.reading.specs.declared.fault.FormFault.TheVariants.{Bracket}
+use Rattle.reading.specs.Faults.{LookUpFault}
+
+-- the form of the bracket that closes at the place is no node's
+abbrev pub missing : ℕ → LookUpFault
+missing place = Bracket place (record {})
 
 -- The bracket with the numbers l, which closes at the place, is looked for among the rows, which stay.
 pub record Found (before : Rows) (l : Lists) (place : ℕ) (r : Result ℕ LookUpFault) (after : Rows) : Type 0 where
-  pub is : r ≡ ok_or (lowest before l) (Missing place)
+  pub is : r ≡ ok_or (lowest before l) (missing place)
   pub rows : after ≡ before
   pub sound : Sound before
 

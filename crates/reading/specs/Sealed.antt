@@ -7,8 +7,8 @@ use Rattle.calls.specs.Sound.{Sound}
 use Rattle.dictionary.specs.declared.fault.DictionaryFault.{DictionaryFault}
 use Rattle.dictionary.specs.Faults.{answer_of}
 use Rattle.dictionary.specs.Holding.{Holding}
-use Rattle.reading.specs.declared.fault.ReadFault.{ReadFault}
-use Rattle.reading.specs.declared.fault.ReadFault.TheVariants.{Bracket}
+use Rattle.reading.specs.declared.fault.FormFault.TheVariants.{Bracket}
+use Rattle.reading.specs.Faults.{ReadFault}
 
 -- what sealing answers for the bracket that closes at a place
 abbrev pub placed : ℕ → Result ℕ DictionaryFault → Result ℕ ReadFault

@@ -3,8 +3,8 @@
 use Rattle.std.specs.Prelude.{◌≡◌, take}
 use Rattle.games.specs.Numbered.{Lists}
 use Rattle.stores.specs.Reading.{numbers_of}
-use Rattle.reading.specs.declared.spelling.Spelling.{Spelling}
+use Rattle.stores.specs.declared.row.Sides.{Sides}
 
 -- the first 17 numbers of each of the two lists
-abbrev pub spelt : Spelling → Lists → Type 0
+abbrev pub spelt : Sides 17 → Lists → Type 0
 spelt s l = (numbers_of s.left ≡ take 17 l.left) × (numbers_of s.right ≡ take 17 l.right)

@@ -8,13 +8,15 @@ use calls::nest::Nest;
 pub fn check(text: &[u8]) -> Result<(), TextFault>
     ensures { Verdict text.now result }
 {
-    let mut nest = Some(Nest::new());
+    let mut nest = Nest::default();
     for (place, byte) in text.iter().enumerate() {
-        let inside = nest.ok_or(TextFault::WrongByte(place))?;
-        nest = inside.take(*byte, place)?;
+        if nest.take(*byte, place)?.is_break() {
+            let behind = place + 1;
+            if behind < text.len() {
+                return Err(TextFault::WrongByte(behind));
+            }
+            return Ok(());
+        }
     }
-    match nest {
-        Some(_) => Err(TextFault::EarlyEnd(text.len())),
-        None => Ok(()),
-    }
+    Err(TextFault::EarlyEnd(text.len()))
 }

@@ -4,11 +4,12 @@ ghost use Rattle.reading.specs.Faults.{look_up_answer};
 ghost use Rattle.reading.specs.Found.{Found, FindsNodes};
 
 use crate::check::check;
-use crate::fault::LookUpFault;
+use crate::fault::{LookUpFault, NoRow};
 use crate::frames::Frames;
 use crate::spelling::Spelling;
 use crate::walk::{Closing, walk};
 use dictionary::frozen::Frozen;
+use games::side::Side;
 use stores::store::Store;
 
 // A bracket's row is looked for.
@@ -16,8 +17,9 @@ impl<'a, S: Store> Closing<Spelling, LookUpFault> for &'a Frozen<S> {
     ghost closes = { λ before l place r after. Found before.now.rows l place r after.now.rows };
 
     fn close(&mut self, options: &Spelling, place: usize) -> Result<u16, LookUpFault> {
-        self.find(options.left.list(), options.right.list())
-            .ok_or(LookUpFault::Missing(place))
+        let fault = NoRow;
+        self.find(options.list(Side::Left), options.list(Side::Right))
+            .ok_or(LookUpFault::Bracket { place, fault })
     }
 }
 
@@ -27,5 +29,5 @@ pub fn look_up<S: Store>(frozen: &Frozen<S>, text: &[u8]) -> Result<u16, LookUpF
     ensures nodes { FindsNodes frozen.now.rows text.now result }
 {
     check(text)?;
-    walk(&mut &*frozen, &mut Frames::none(), text)
+    walk(&mut &*frozen, &mut Frames::default(), text)
 }

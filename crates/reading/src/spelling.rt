@@ -5,17 +5,13 @@ ghost use Rattle.reading.specs.Spelt.{spelt};
 use crate::options::Options;
 use games::bounds::MOST_OPTIONS;
 use games::side::Side;
-use stores::numbers::Numbers;
+use stores::row::Sides;
 
 // How many numbers of a side are kept: one more than a row can have, so that a longer list is found in no row.
 const KEPT: usize = MOST_OPTIONS + 1;
 
 // The numbers of the Left options and of the Right options, in their order.
-#[derive(Clone, Copy, Default, PartialEq, Eq)]
-pub(crate) struct Spelling {
-    pub(crate) left: Numbers<KEPT>,
-    pub(crate) right: Numbers<KEPT>,
-}
+pub(crate) type Spelling = Sides<KEPT>;
 
 impl Options for Spelling {
     ghost keeps = { λ s l. spelt s l };
@@ -23,9 +19,6 @@ impl Options for Spelling {
     ghost blank = { Prim.search rules };
 
     fn put(&mut self, side: Side, node: u16) {
-        match side {
-            Side::Left => self.left.push(node),
-            Side::Right => self.right.push(node),
-        }
+        self.push(side, node);
     }
 }

@@ -1,7 +1,7 @@
 -- The game of a position is the form whose options are the games of its successors; so who wins it is told by the successors.
 -- Assumes nothing.
-use Rattle.std.proofs.Common.{◌≡◌, ℕ, zero, suc, ◌+◌, ◌<◌, ◌≤◌, Bool, true, false, cond, not, ◌||◌, List, [], ◌∷◌, length, get_or, drop, Some, None, filter, sym, refl, ap, ◌∙◌, ap₂, arith}
-use Rattle.std.specs.List.{AllByRecursion, range_with_len, slice_get}
+use Rattle.std.proofs.Common.{◌≡◌, ℕ, zero, suc, ◌+◌, ◌<◌, ◌≤◌, Bool, true, false, cond, not, ◌||◌, List, [], ◌∷◌, length, get_or, drop, Some, None, filter, map, sym, refl, ap, ◌∙◌, ap₂, arith}
+use Rattle.std.specs.List.{AllByRecursion, enumerate_from, list_any, range_with_len, slice_get}
 use Rattle.std.proofs.ByRecursion.{All-get_or}
 use Rattle.games.specs.declared.side.Side.{Side}
 use Rattle.games.specs.declared.side.Side.TheVariants.{Left, Right}
@@ -42,12 +42,7 @@ module _ (R : Rules) (l : Lawful R) where
   options_of Left n = ap (options Left) (game_law n)
   options_of Right n = ap (options Right) (game_law n)
 
--- some number of the list passes the test
-abbrev pub any_of : (ℕ → Bool) → List ℕ → Bool
-any_of p [] = false
-any_of p (n ∷ ns) = p n || any_of p ns
-
-any_each : (p : Form → Bool) (f : ℕ → Form) (ns : List ℕ) → any p (each f ns) ≡ any_of (λ n. p (f n)) ns
+any_each : (p : Form → Bool) (f : ℕ → Form) (ns : List ℕ) → any p (each f ns) ≡ list_any (λ n. p (f n)) ns
 any_each p f [] = refl
 any_each p f (n ∷ ns) = ap (λ b. p (f n) || b) (any_each p f ns)
 
@@ -61,7 +56,7 @@ alone Left g = wins_law Left g 𝟎 ∙ or_false _
 alone Right g = wins_law Right g 𝟎 ∙ or_false _
 
 module _ (R : Rules) (l : Lawful R) where
-  pub starter_law : (s : Side) (n : ℕ) → starter_wins R s n ≡ any_of (mover_wins R s) (R.moves s n)
+  pub starter_law : (s : Side) (n : ℕ) → starter_wins R s n ≡ list_any (mover_wins R s) (R.moves s n)
   starter_law s n = alone s (game R n) ∙ ap (any (λ o. not (wins (other s) o 𝟎))) (options_of R l s n) ∙ any_each (λ o. not (wins (other s) o 𝟎)) (game R) (R.moves s n)
 
 -- what a successor question that answers tells: the index is below the count, and the answer stands there
@@ -96,14 +91,17 @@ successor_falls R l s n i m e =
     let (h, k) = nth_some (R.moves s n) i m e in
     rw k at (All-get_or (λ m. (R.legal m ≡ true) × (R.rank m < R.rank n)) (R.moves s n) i 0 h (l.falls s n))
 
--- the places, counted from a, of the numbers that pass the test
-abbrev pub places : (ℕ → Bool) → ℕ → List ℕ → List ℕ
-places p a [] = []
-places p a (n ∷ ns) = cond (p n) (a ∷ places p (a + 1) ns) (places p (a + 1) ns)
+-- the first parts of the pairs
+abbrev firsts : List (ℕ × ℕ) → List ℕ
+firsts ts = map (λ t. t.0) ts
 
--- they are the indices that pass a test which reads the number there
-pub places_filter : (p q : ℕ → Bool) (a : ℕ) (ns : List ℕ) → ((k j : ℕ) → k < length ns → a + k ≡ j → q j ≡ p (get_or ns k 0)) → places p a ns ≡ filter q (range_with_len a (length ns))
-places_filter p q a [] h = refl
-places_filter p q a (n ∷ ns) h =
-    let others = places_filter p q (a + 1) ns (λ k j b e. h (suc k) j (omega arith) (omega arith)) in
-    rw (h 0 a (omega arith) (omega arith), others) refl
+firsts_kept : (b : Bool) (a n : ℕ) (ts : List (ℕ × ℕ)) (is : List ℕ) → firsts ts ≡ is → firsts (cond b ((a, n) ∷ ts) ts) ≡ cond b (a ∷ is) is
+firsts_kept true a n ts is e = ap (λ js. a ∷ js) e
+firsts_kept false a n ts is e = e
+
+-- the indices, counted from a, of the numbers that pass the test are those that pass a test which reads the number there
+pub indices_filter : (p q : ℕ → Bool) (a : ℕ) (ns : List ℕ) → ((k j : ℕ) → k < length ns → a + k ≡ j → q j ≡ p (get_or ns k 0)) → map (λ t. t.0) (filter (λ t. p t.1) (enumerate_from a ns)) ≡ filter q (range_with_len a (length ns))
+indices_filter p q a [] h = refl
+indices_filter p q a (n ∷ ns) h =
+    let others = indices_filter p q (a + 1) ns (λ k j b e. h (suc k) j (omega arith) (omega arith)) in
+    rw (h 0 a (omega arith) (omega arith)) (firsts_kept (p n) a n _ _ others)

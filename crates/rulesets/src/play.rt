@@ -3,7 +3,7 @@ ghost use Rattle.std.specs.Prelude.{◌≡◌, IfOk};
 ghost use Rattle.games.specs.Outcomes.{outcome};
 ghost use Rattle.rulesets.specs.Laws.{GameReads};
 ghost use Rattle.rulesets.specs.Rules.{game};
-ghost use Rattle.rulesets.specs.Winning.{starter_wins, winning};
+ghost use Rattle.rulesets.specs.Winning.{mover_wins, starter_wins, winning};
 
 use crate::ruleset::Ruleset;
 use crate::successors::successors_of;
@@ -15,12 +15,11 @@ use std::alloc::{AllocError, Global};
 pub fn can_win<R: Ruleset>(board: &R, side: Side, code: u64) -> bool
     ensures { result ≡ starter_wins (R.Ruleset.rules board.now) side code }
 {
-    for next in successors_of(board, side, code) {
-        if !can_win(board, side.other(), next) {
-            return true;
-        }
-    }
-    false
+    successors_of(board, side, code).any(
+        |next|
+            ensures { result ≡ mover_wins (R.Ruleset.rules board.entry.now) side next }
+        { !can_win(board, side.other(), next) },
+    )
 }
 
 // The outcome of the position's game, told by who can win when starting.
@@ -43,11 +42,9 @@ pub fn winning_moves<R: Ruleset>(
     ensures winning { IfOk result (λ v. v.items ≡ winning (R.Ruleset.rules board.now) side code) }
     ensures reads { GameReads (R.Ruleset.rules board.now) }
 {
-    let mut indices = Vec::new(heap);
-    for (index, left) in successors_of(board, side, code).enumerate() {
-        if !can_win(board, side.other(), left) {
-            indices.push(index)?;
-        }
-    }
-    Ok(indices)
+    successors_of(board, side, code)
+        .enumerate()
+        .filter(|(_, left)| !can_win(board, side.other(), *left))
+        .map(|(index, _)| index)
+        .collect(heap)
 }

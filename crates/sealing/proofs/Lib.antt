@@ -7,6 +7,7 @@ pub mod Reading
 pub mod Deciding
 pub mod Whole
 pub mod Turns
+pub mod LeftOut
 pub mod Reducing
 pub mod Clearing
 pub mod Settling

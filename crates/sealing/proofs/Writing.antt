@@ -1,8 +1,10 @@
 -- The listed nodes of a set, counted and written to a buffer.
 -- Assumes nothing.
-use Rattle.std.proofs.Common.{◌≡◌, ℕ, suc, ◌+◌, ◌<◌, ◌≤◌, Bool, true, false, cond, List, [], ◌∷◌, ◌++◌, length, get_or, take, drop, set, filter, sym, refl, ap, ◌∙◌, append-nil, length-append, add-one, arith, drop-cons}
+use Rattle.std.proofs.Common.{◌≡◌, ℕ, suc, ◌+◌, ◌<◌, ◌≤◌, Bool, true, false, cond, List, [], ◌∷◌, ◌++◌, length, get_or, take, drop, set, filter, sym, refl, ap, ◌∙◌, append-nil, length-append, add-one, arith, drop-cons, subst}
 use Rattle.std.proofs.lemmas.List.Elements.{filter_more, filter-append}
-use Rattle.std.proofs.lemmas.List.{append_assoc, length_push, set_at, take_all, take-append-le, drop_all, take-append-drop}
+use Rattle.std.specs.List.{enumerate_from}
+use Rattle.std.proofs.lemmas.List.{append_assoc, length_push, length-take-le, set_at, take_all, take_more, take-append-le, drop_all, take-append-drop}
+use Rattle.std.proofs.lemmas.List.FromFn.{length-enumerate_from, get_or-enumerate_from}
 
 -- the buffer with xs at its front, as far as it reaches
 abbrev pub written : List ℕ → List ℕ → List ℕ
@@ -31,6 +33,35 @@ pub write_full : (b xs : List ℕ) (x : ℕ) → length b ≤ length xs → writ
 write_full b xs x h =
     ap (λ z. take (length b) xs ++ z) (drop_all (length xs) b h ∙ sym (drop_all (length (xs ++ (x ∷ []))) b (let m = length_push xs x in omega arith)))
     ∙ ap (λ z. z ++ drop (length (xs ++ (x ∷ []))) b) (sym (take-append-le (length b) xs (x ∷ []) h))
+
+-- the item of a loop over numbered nodes, after k of them
+module _ (b ys : List ℕ) (k n x : ℕ) (turn : (k < length (enumerate_from 0 ys)) × (◌≡◌ {A = ℕ × ℕ} (n, x) (get_or (enumerate_from 0 ys) k (n, x)))) where
+  within : k < length ys
+  within = subst (λ m. k < m) (length-enumerate_from 0 ys) turn.0
+
+  item : ◌≡◌ {A = ℕ × ℕ} (n, x) (k, get_or ys k x)
+  item = turn.1 ∙ get_or-enumerate_from 0 ys k (n, x) within ∙ ap (λ m. (m, get_or ys k x)) (let e : 0 + k ≡ k = omega arith in e)
+
+  number : n ≡ k
+  number = ap (λ p. p.0) item
+
+  pushed : take (k + 1) ys ≡ take k ys ++ (x ∷ [])
+  pushed = take_more ys k x within ∙ ap (λ z. take k ys ++ (z ∷ [])) (sym (ap (λ p. p.1) item))
+
+  taken : length (take k ys) ≡ k
+  taken = length-take-le k ys (let l = within in omega arith)
+
+  -- there is room for it
+  pub write_next : (zs : List ℕ) → zs ≡ written b (take k ys) → n < length b → set zs n x ≡ written b (take (k + 1) ys)
+  write_next zs was room =
+      ap (λ (z : List ℕ). set z n x) was
+      ∙ ap (λ m. set (written b (take k ys)) m x) (number ∙ sym taken)
+      ∙ write_more b (take k ys) x (let a = taken in let e = number in omega arith)
+      ∙ ap (written b) (sym pushed)
+
+  -- there is none
+  pub skip_next : (zs : List ℕ) → zs ≡ written b (take k ys) → length b ≤ n → zs ≡ written b (take (k + 1) ys)
+  skip_next zs was full = was ∙ write_full b (take k ys) x (let a = taken in let e = number in omega arith) ∙ ap (written b) (sym pushed)
 
 -- one more number of the list, which is in the set or not
 module _ (p : ℕ → Bool) (ks : List ℕ) (i : ℕ) (h : i < length ks) where

@@ -31,6 +31,11 @@ pub record Partly (os ws : List Sets) (s : Side) (o : Sets) (decided worse : ℕ
 abbrev pub Upto : ℕ → (ℕ → Bool) → Type 0
 Upto h p = (k : ℕ) → k < h → p k ≡ true
 
+-- r is the lowest node below n that is not decided for both sides, or all are
+abbrev pub LowestUndecided : ℕ → (ℕ → Bool) → (ℕ → Bool) → Option ℕ → Type 0
+LowestUndecided n left right r =
+    MatchOption r (Upto n left × Upto n right) (λ h. (h < n) × Upto h left × Upto h right × ((left h && right h) ≡ false))
+
 -- h is decided too, and no less than before
 pub record Further (os ws : List Sets) (s : Side) (o : Sets) (h : ℕ) (decided after worse : ℕ → Bool) : Type 0 where
   pub known : Partly os ws s o after worse

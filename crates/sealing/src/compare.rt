@@ -1,12 +1,12 @@
 // How a game compares with the nodes: it is given by its options, a set of nodes for each side.
-ghost use Rattle.std.specs.Prelude.{◌≡◌, ℕ, ◌<◌, ◌&&◌, length, vec_len, nat_lt};
+ghost use Rattle.std.specs.Prelude.{◌≡◌, ℕ, ◌<◌, true, ◌&&◌, length, vec_len, nat_lt};
 ghost use Rattle.games.specs.declared.side.Side.{Side};
 ghost use Rattle.games.specs.Sides.{other};
 ghost use Rattle.games.specs.Tests.{as_good};
 ghost use Rattle.nodesets.specs.Pairs.{Sets, Within, by};
 ghost use Rattle.nodesets.specs.Sets.{has};
 ghost use Rattle.sealing.specs.Forms.{node, game};
-ghost use Rattle.sealing.specs.Steps.{bested_by, Further, Partly};
+ghost use Rattle.sealing.specs.Steps.{bested_by, Further, LowestUndecided, Partly};
 ghost use Rattle.sealing.specs.Views.{links, ranks};
 
 use crate::game::Game;
@@ -24,21 +24,29 @@ pub struct Known {
 
 impl Nodes {
     // The nodes that some node of the set is as good as for the side.
-    pub fn bested(&self, side: Side, set: &NodeSet) -> NodeSet
+    fn bested(&self, side: Side, set: &NodeSet) -> NodeSet
+        requires { (k : ℕ) → has set.now k ≡ true → k < vec_len self.now.rows }
         ensures { (h : ℕ) → has result h ≡ bested_by (ranks self.now) side (has set.now) h }
     {
         let mut all = NodeSet::default();
-        for (o, row) in self.rows.iter().enumerate() {
-            if set.contains(o) {
-                all.union(row.worse.of(side));
-            }
+        let mut rest = *set;
+        while let Some(node) = rest.take_lowest() {
+            all.union(self.rows[node].worse.of(side));
         }
         all
     }
 
+    // The lowest node that is not decided for both sides.
+    fn undecided(&self, left: &Known, right: &Known) -> Option<usize>
+        ensures { LowestUndecided (vec_len self.now.rows) (has left.now.decided) (has right.now.decided) result }
+    {
+        let node = left.decided.missing(&right.decided)?;
+        (node < self.rows.len()).then_some(node)
+    }
+
     // Decides the node h for the side, and with it all nodes that are as good as h, or that h is as good as.
     // theirs: of the nodes below h those that the game is as good as for the other side.
-    pub fn decide(&self, side: Side, known: &mut Known, theirs: &NodeSet, h: usize)
+    fn decide(&self, side: Side, known: &mut Known, theirs: &NodeSet, h: usize)
         requires { h < vec_len self.now.rows }
         ensures { (o : Sets) → Within (length (links self.now)) o → Partly (links self.now) (ranks self.now) side o (has known.old.decided) (has known.old.worse) → ((k : ℕ) → k < h → has theirs.now k ≡ as_good (other side) (game (links self.now) o) (node (links self.now) k)) → Further (links self.now) (ranks self.now) side o h (has known.old.decided) (has known.new.decided) (has known.new.worse) }
     {
@@ -68,7 +76,7 @@ impl Nodes {
             decided: self.bested(Side::Left, &moves.left),
             worse: NodeSet::default(),
         };
-        for h in 0..self.rows.len() {
+        while let Some(h) = self.undecided(&left, &right) {
             self.decide(Side::Left, &mut left, &right.worse, h);
             self.decide(Side::Right, &mut right, &left.worse, h);
         }

@@ -69,16 +69,15 @@ pub fn write_listed(listing: &[u16], set: &NodeSet, buffer: &mut [u16]) -> usize
     ensures number { result ≡ length (filter (has set.now) listing.now) }
     ensures written { buffer.new ≡ take (length buffer.old) (filter (has set.now) listing.now) ++ drop result buffer.old }
 {
-    let mut n: usize = 0;
-    for node in listing {
-        if set.contains(usize::from(*node)) {
-            if n < buffer.len() {
-                buffer[n] = *node;
-            }
-            n += 1;
+    let listed = listing
+        .iter()
+        .filter(|node| set.contains(usize::from(**node)));
+    for (n, node) in listed.enumerate() {
+        if n < buffer.len() {
+            buffer[n] = *node;
         }
     }
-    n
+    count_listed(listing, set)
 }
 
 // The nodes of the listing that are in the set, unless there are more than `MOST`.

@@ -7,7 +7,7 @@ use stores::fault::StoreFault;
 use stores::row::Row;
 use stores::store::Store;
 
-#[derive(Clone, Copy, PartialEq, Eq)]
+#[derive(Clone, Copy, Debug, PartialEq, Eq)]
 pub enum StoreCall {
     Capacity,
     Count,

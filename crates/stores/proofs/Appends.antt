@@ -6,8 +6,7 @@ use Rattle.games.specs.Numbered.{Lists}
 use Rattle.stores.specs.declared.fault.StoreFault.{StoreFault}
 use Rattle.stores.specs.declared.fault.StoreFault.TheVariants.{Unknown, Full}
 use Rattle.std.proofs.lemmas.List.{map_push}
-use Rattle.stores.specs.declared.row.Row.{Row}
-use Rattle.stores.specs.Reading.{lists_of}
+use Rattle.stores.specs.Reading.{Row, lists_of}
 use Rattle.stores.specs.Rows.{Rows, NamesLower, names_below, append_answer, append_rows}
 use Rattle.stores.proofs.Lists.{lower_push}
 

@@ -7,10 +7,9 @@ use Rattle.games.specs.declared.side.Side.{Side}
 use Rattle.games.specs.declared.side.Side.TheVariants.{Left, Right}
 use Rattle.games.specs.Numbered.{Lists, list_of}
 use Rattle.stores.specs.declared.numbers.Numbers.{Numbers}
-use Rattle.stores.specs.declared.row.Row.{Row}
 use Rattle.stores.specs.declared.row_list.RowList.{RowList}
 use Rattle.stores.specs.Kept.{rows_in}
-use Rattle.stores.specs.Reading.{numbers_of, lists_of}
+use Rattle.stores.specs.Reading.{Row, numbers_of, lists_of}
 use Rattle.stores.specs.Rows.{Lawful, NamesLower, row_at, bare, all_below, names_below}
 use Rattle.stores.proofs.Lists.{no_row}
 

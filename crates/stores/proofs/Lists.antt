@@ -6,8 +6,7 @@ use Rattle.std.specs.Option.{option_map, unwrap_or}
 use Rattle.std.proofs.lemmas.Slice.Eq.{bytes_eq-Decides}
 use Rattle.std.proofs.lemmas.Bool.{cases_lt}
 use Rattle.games.specs.Numbered.{Lists}
-use Rattle.stores.specs.declared.row.Row.{Row}
-use Rattle.stores.specs.Reading.{lists_of, numbers_of}
+use Rattle.stores.specs.Reading.{Row, lists_of, numbers_of}
 use Rattle.stores.specs.Rows.{Rows, row_at, bare, same_list, NamesLower, names_below}
 
 -- what stands past the last of the code's rows

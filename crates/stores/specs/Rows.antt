@@ -1,10 +1,11 @@
 -- What a store holds, a list of rows numbered from 0 up, and what it answers.
 -- Assumes nothing.
-use Rattle.std.specs.Prelude.{◌≡◌, ℕ, suc, ◌<◌, ◌≤◌, Bool, true, false, cond, ◌&&◌, List, [], ◌∷◌, ◌++◌, length, is_ok, Some, None, Ok, Err, Option, Result, ◌==◌, ◌≢◌, nat_le, nat_lt, slice_index, slice_index_or}
+use Rattle.std.specs.Prelude.{take, ◌≡◌, ℕ, suc, ◌<◌, ◌≤◌, Bool, true, false, cond, ◌&&◌, List, [], ◌∷◌, ◌++◌, length, is_ok, Some, None, Ok, Err, Option, Result, ◌==◌, ◌≢◌, nat_le, nat_lt, slice_index, slice_index_or}
 use Rattle.std.specs.Cmp.Lexicographic.{pointwise}
 use Rattle.std.specs.List.{list_all}
 use Rattle.std.specs.Option.{option_map}
 use Rattle.games.specs.declared.side.Side.{Side}
+use Rattle.games.specs.declared.side.Side.TheVariants.{Left, Right}
 use Rattle.games.specs.Numbered.{Lists, list_of}
 use Rattle.stores.specs.declared.fault.StoreFault.{StoreFault}
 use Rattle.stores.specs.declared.fault.StoreFault.TheVariants.{Unknown, Full}
@@ -30,6 +31,11 @@ short most l = cond (nat_le (length l) most) (Some l) None
 -- the row of two lists, if both are short
 abbrev pub row_of_lists : List ℕ → List ℕ → Option Lists
 row_of_lists l r = cond (nat_le (length l) 16 && nat_le (length r) 16) (Some (record { left = l; right = r })) None
+
+-- two lists with one number more on a side, unless that has `most` of them
+abbrev pub pushed : ℕ → Side → ℕ → Lists → Lists
+pushed most Left n l = record { left = take most (l.left ++ n ∷ []); right = l.right }
+pushed most Right n l = record { left = l.left; right = take most (l.right ++ n ∷ []) }
 
 -- whether two lists are the same
 abbrev pub same_list : List ℕ → List ℕ → Bool

@@ -4,6 +4,8 @@ ghost use Rattle.stores.specs.Faults.{number_of};
 
 use std::alloc::AllocError;
 
+mod text;
+
 // Why a store does not take a row.
 #[derive(Clone, Copy, Debug, PartialEq, Eq)]
 pub enum StoreFault {

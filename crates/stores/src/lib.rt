@@ -4,6 +4,7 @@
 pub mod fault;
 pub mod laws;
 pub mod numbers;
+pub mod options;
 pub mod row;
 pub mod row_list;
 pub mod store;

@@ -3,9 +3,10 @@ ghost use Rattle.std.specs.Prelude.{◌≡◌, ◌≤◌, length};
 
 mod compare;
 mod lists;
+mod text;
 
 // At most `MOST` numbers: the first `count` of `items`.
-#[derive(Clone, Copy)]
+#[derive(Clone, Copy, Debug)]
 pub struct Numbers<const MOST: usize> {
     items: [u16; MOST],
     count: usize,

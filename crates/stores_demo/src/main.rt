@@ -2,13 +2,11 @@
 #![tactic(auto)]
 
 mod script;
-mod shown;
 
-use anyhow::anyhow;
+use anyhow::Context;
 use hashed_store::table::HashTable;
 use ordered_store::ordered::OrderedList;
 use script::script;
-use shown::{Answered, Asked};
 use store_runs::call::{StoreAnswer, StoreCall};
 use store_runs::replay::replay_both;
 
@@ -22,7 +20,7 @@ fn print_run(
 ) -> anyhow::Result<()> {
     println!(rt; "{name}")?;
     for (call, answer) in calls.iter().zip(answers) {
-        println!(rt; "  {}: {}", Asked(*call), Answered(*answer))?;
+        println!(rt; "  {call}: {answer}")?;
     }
     Ok(())
 }
@@ -30,12 +28,8 @@ fn print_run(
 fn main(rt: HostRuntime) -> anyhow::Result<()> {
     let heap = rt.alloc();
     let calls = script(heap)?;
-    let Ok(mut list) = OrderedList::new(heap, CAPACITY) else {
-        return Err(anyhow!("no memory for the ordered list"));
-    };
-    let Ok(mut table) = HashTable::new(heap, CAPACITY) else {
-        return Err(anyhow!("no memory for the table"));
-    };
+    let mut list = OrderedList::new(heap, CAPACITY).context("the ordered list")?;
+    let mut table = HashTable::new(heap, CAPACITY).context("the table")?;
     let (first, second) = replay_both(heap, &mut list, &mut table, &calls)?;
     print_run(&rt, "ordered list", &calls, &first)?;
     print_run(&rt, "hash-consed table", &calls, &second)

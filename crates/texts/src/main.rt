@@ -85,10 +85,9 @@ fn checks(rt: &HostRuntime) -> anyhow::Result<()> {
 }
 
 fn deep_checks(rt: &HostRuntime) -> anyhow::Result<()> {
+    let heap = rt.alloc();
     for (beginning, part, times) in TOO_DEEP {
-        let mut text = String::new(rt.alloc());
-        text.push_str(beginning)?;
-        push_times(&mut text, part, times)?;
+        let text = format!(in heap; "{beginning}{}", part.repeat(heap, times)?)?;
         show_check(rt, text.as_str())?;
     }
     Ok(())
@@ -107,9 +106,7 @@ struct OneRow;
 
 impl Demo for OneRow {
     fn over<S: Shown>(&self, rt: &HostRuntime) -> anyhow::Result<()> {
-        let Ok(mut dictionary) = begin::<S>(rt.alloc(), 1) else {
-            return Ok(());
-        };
+        let mut dictionary = begin::<S>(rt.alloc(), 1)?;
         println!(rt; "{} of 1 row", S::NAME)?;
         show_read(rt, &mut dictionary, "{{|}|}", b"{{|}|}")?;
         let frozen = dictionary.freeze();
@@ -125,9 +122,7 @@ struct Reads;
 
 impl Demo for Reads {
     fn over<S: Shown>(&self, rt: &HostRuntime) -> anyhow::Result<()> {
-        let Ok(mut dictionary) = begin::<S>(rt.alloc(), 4) else {
-            return Ok(());
-        };
+        let mut dictionary = begin::<S>(rt.alloc(), 4)?;
         println!(rt; "reading into {} of 4 rows", S::NAME)?;
         for text in READ {
             show_read(rt, &mut dictionary, text, text.as_bytes())?;
@@ -146,9 +141,7 @@ struct Extremes;
 
 impl Demo for Extremes {
     fn over<S: Shown>(&self, rt: &HostRuntime) -> anyhow::Result<()> {
-        let Ok(mut dictionary) = begin::<S>(rt.alloc(), MOST_NODES) else {
-            return Ok(());
-        };
+        let mut dictionary = begin::<S>(rt.alloc(), MOST_NODES)?;
         println!(rt; "deep and wide forms, over {}", S::NAME)?;
         for (name, depth) in [("97 deep", 97), ("96 deep", 96), ("and again", 96)] {
             show_read(rt, &mut dictionary, name, number(rt, depth)?.as_bytes())?;
@@ -166,9 +159,7 @@ struct NoNodes;
 
 impl Demo for NoNodes {
     fn over<S: Shown>(&self, rt: &HostRuntime) -> anyhow::Result<()> {
-        let Ok(dictionary) = begin::<S>(rt.alloc(), 1) else {
-            return Ok(());
-        };
+        let dictionary = begin::<S>(rt.alloc(), 1)?;
         println!(rt; "looking up among no nodes, over {}", S::NAME)?;
         show_look_up(rt, &dictionary.freeze(), "{{|}|}", b"{{|}|}")
     }
@@ -179,9 +170,7 @@ struct LookUps;
 
 impl Demo for LookUps {
     fn over<S: Shown>(&self, rt: &HostRuntime) -> anyhow::Result<()> {
-        let Ok(mut dictionary) = begin::<S>(rt.alloc(), 4) else {
-            return Ok(());
-        };
+        let mut dictionary = begin::<S>(rt.alloc(), 4)?;
         println!(rt; "looking up over {}", S::NAME)?;
         for text in ["{{{|}|}|}", "{{|}|{|}}"] {
             show_read(rt, &mut dictionary, text, text.as_bytes())?;
@@ -231,60 +220,33 @@ fn show_node(rt: &HostRuntime, name: &str, node: Result<u16, (u8, usize)>) -> an
 
 // {|}, {{|}|}, {{{|}|}|} and so on, nested so deep: the number below that depth.
 fn number(rt: &HostRuntime, depth: usize) -> Result<String, AllocError> {
-    let mut text = String::new(rt.alloc());
-    push_number(&mut text, depth)?;
-    Ok(text)
-}
-
-fn push_number(text: &mut String, depth: usize) -> Result<(), AllocError> {
-    push_times(text, "{", depth)?;
-    push_times(text, "|}", depth)
+    let heap = rt.alloc();
+    format!(in heap; "{}{}", "{".repeat(heap, depth)?, "|}".repeat(heap, depth)?)
 }
 
 // {|}, {|{|}}, {|{|{|}}} and so on.
-fn push_minus(text: &mut String, depth: usize) -> Result<(), AllocError> {
-    push_times(text, "{|", depth)?;
-    push_times(text, "}", depth)
+fn minus(rt: &HostRuntime, depth: usize) -> Result<String, AllocError> {
+    let heap = rt.alloc();
+    format!(in heap; "{}{}", "{|".repeat(heap, depth)?, "}".repeat(heap, depth)?)
 }
 
-fn push_times(text: &mut String, part: &str, times: usize) -> Result<(), AllocError> {
-    for _ in 0..times {
-        text.push_str(part)?;
-    }
-    Ok(())
+// {{|}|{|}} and so on: the switch of the number below that depth, and of its minus.
+fn switch(rt: &HostRuntime, depth: usize) -> Result<String, AllocError> {
+    format!(in rt.alloc(); "{{{}|{}}}", number(rt, depth)?, minus(rt, depth)?)
 }
 
 // The switches {1|-1}, {2|-2} and so on as Left options, none of which is as good as another, and -18 as the Right option.
 fn switches(rt: &HostRuntime, count: u8) -> Result<String, AllocError> {
-    let mut text = String::new(rt.alloc());
-    text.push_str("{")?;
-    for switch in 0..count {
-        if switch > 0 {
-            text.push_str(",")?;
-        }
-        let depth = usize::from(switch) + 2;
-        text.push_str("{")?;
-        push_number(&mut text, depth)?;
-        text.push_str("|")?;
-        push_minus(&mut text, depth)?;
-        text.push_str("}")?;
-    }
-    text.push_str("|")?;
-    push_minus(&mut text, 19)?;
-    text.push_str("}")?;
-    Ok(text)
+    let heap = rt.alloc();
+    let options: Vec<String> = (0..count)
+        .map(|index| switch(rt, usize::from(index) + 2))
+        .try_collect(heap)?;
+    format!(in heap; "{{{}|{}}}", options.join(heap, ",")?, minus(rt, 19)?)
 }
 
 // So many zeros as Left options.
 fn zeros(rt: &HostRuntime, count: usize) -> Result<String, AllocError> {
-    let mut text = String::new(rt.alloc());
-    text.push_str("{")?;
-    for index in 0..count {
-        if index > 0 {
-            text.push_str(",")?;
-        }
-        text.push_str("{|}")?;
-    }
-    text.push_str("|}")?;
-    Ok(text)
+    let heap = rt.alloc();
+    let options = ["{|}"].repeat(heap, count)?;
+    format!(in heap; "{{{}|}}", options.join(heap, ",")?)
 }

@@ -3,3 +3,4 @@ pub mod Valued
 pub mod Moved
 pub mod Sure
 pub mod Sides
+pub mod Stepping

@@ -5,6 +5,7 @@ ghost use Rattle.games.specs.Tests.{as_good};
 ghost use Rattle.calls.specs.Rows.{node};
 ghost use Rattle.valuing.specs.Answers.{answer_at};
 ghost use Rattle.valuing.specs.Moved.{Earliest, Moved, earlier_of, won_by};
+ghost use Rattle.valuing.specs.Stepping.{FirstMoveSteps};
 
 use crate::fault::ValueFault;
 use crate::recall::{Nothing, Recall};
@@ -54,6 +55,7 @@ pub fn first_move_with<S: Store, M: Recall, R: Ruleset>(
     code: u64,
 ) -> Result<Option<usize>, ValueFault>
     ensures moved { Moved (R.Ruleset.rules board.now) dictionary.old.room dictionary.old.rows side code (answer_at result) dictionary.new.rows }
+    ensures step { FirstMoveSteps (R.Ruleset.rules board.now) dictionary.old.room dictionary.old.rows side code (answer_at result) dictionary.new.rows }
     ensures earliest { Earliest (R.Ruleset.rules board.now) side code (answer_at result) }
     ensures room { dictionary.new.room ≡ dictionary.old.room }
 {
@@ -77,6 +79,7 @@ pub fn first_move<S: Store, R: Ruleset>(
     code: u64,
 ) -> Result<Option<usize>, ValueFault>
     ensures moved { Moved (R.Ruleset.rules board.now) dictionary.old.room dictionary.old.rows side code (answer_at result) dictionary.new.rows }
+    ensures step { FirstMoveSteps (R.Ruleset.rules board.now) dictionary.old.room dictionary.old.rows side code (answer_at result) dictionary.new.rows }
     ensures earliest { Earliest (R.Ruleset.rules board.now) side code (answer_at result) }
     ensures room { dictionary.new.room ≡ dictionary.old.room }
 {

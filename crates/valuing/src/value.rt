@@ -4,6 +4,7 @@ ghost use Rattle.games.specs.Sides.{other};
 ghost use Rattle.nodesets.specs.Pairs.{by};
 ghost use Rattle.valuing.specs.Answers.{answer_at};
 ghost use Rattle.valuing.specs.Sides.{Turned};
+ghost use Rattle.valuing.specs.Stepping.{ValueSteps};
 ghost use Rattle.valuing.specs.Sure.{Sure};
 ghost use Rattle.valuing.specs.Valued.{Entered, Valued};
 
@@ -73,6 +74,7 @@ pub fn value_with<S: Store, M: Recall, R: Ruleset>(
     code: u64,
 ) -> Result<u16, ValueFault>
     ensures valued { Valued (R.Ruleset.rules board.now) dictionary.old.room dictionary.old.rows code (answer_at result) dictionary.new.rows }
+    ensures step { ValueSteps (R.Ruleset.rules board.now) dictionary.old.room dictionary.old.rows code (answer_at result) dictionary.new.rows }
     ensures room { dictionary.new.room ≡ dictionary.old.room }
 {
     if !board.is_legal(code) {
@@ -89,6 +91,7 @@ pub fn value<S: Store, R: Ruleset>(
     code: u64,
 ) -> Result<u16, ValueFault>
     ensures valued { Valued (R.Ruleset.rules board.now) dictionary.old.room dictionary.old.rows code (answer_at result) dictionary.new.rows }
+    ensures step { ValueSteps (R.Ruleset.rules board.now) dictionary.old.room dictionary.old.rows code (answer_at result) dictionary.new.rows }
     ensures room { dictionary.new.room ≡ dictionary.old.room }
 {
     value_with(dictionary, &mut Nothing, board, code)

@@ -1,63 +1,59 @@
-// Sessions of the calculator over each store, against answers that another program worked out.
+// Sessions of the calculator over each store, against answers that another program worked out, or that were worked out by hand.
 #![tactic(auto)]
 
-use anyhow::anyhow;
-use calculator::calculator::Calculator;
-use console::serving::serve;
+use console::session::answer_all;
+use demos::shown::{Demo, Shown, over_both};
 use games::bounds::MOST_NODES;
-use hashed_store::table::HashTable;
-use ordered_store::ordered::OrderedList;
 use std::fs;
-use std::io::{BufReader, BufWriter};
-use stores::fault::MakeFault;
-use stores::store::Store;
 
-// The sessions: NAME.in has the lines, and NAME.out the answers.
-const SESSIONS: [&'static str; 6] = ["worked", "valid", "mixed", "faults", "edge", "big"];
+// The sessions: NAME.in has the lines, and NAME.out the answers. Those of `bounds` (each size at its bound and beyond) and of `full`
+// (a dictionary filled to its last row, and what is refused and still answered then) were worked out by hand.
+const SESSIONS: [&'static str; 8] = [
+    "worked", "valid", "mixed", "faults", "edge", "big", "bounds", "full",
+];
 
-// What is written for the lines, over a new dictionary.
-fn answers<S: Store + Drop>(
-    rt: &HostRuntime,
-    made: Result<S, MakeFault>,
-    lines: &[u8],
-) -> anyhow::Result<Vec<u8>> {
+#[derive(Drop)]
+struct Session {
+    name: &'static str,
+    lines: Vec<u8>,
+    wanted: Vec<u8>,
+}
+
+fn read_session(rt: &HostRuntime, name: &'static str) -> anyhow::Result<Session> {
     let heap = rt.alloc();
-    let store = made.map_err(|fault| anyhow!("no store is made: {fault:?}"))?;
-    let mut calculator = Calculator::begin(heap, store)?;
-    let mut input = BufReader::new(heap, lines)?;
-    let mut output = BufWriter::new(heap, Vec::new(heap))?;
-    serve(heap, &mut calculator, &mut input, &mut output)?;
-    let (written, _) = output.into_parts();
-    Ok(written)
+    let lines = fs::read(rt, format!(in heap; "{name}.in")?)?;
+    let wanted = fs::read(rt, format!(in heap; "{name}.out")?)?;
+    Ok(Session {
+        name,
+        lines,
+        wanted,
+    })
 }
 
 // Tells whether the answers are those that are wanted, byte for byte.
-fn tell(
-    rt: &HostRuntime,
-    session: &str,
-    store: &str,
-    wanted: &[u8],
-    given: &[u8],
-) -> anyhow::Result<()> {
-    let lines = wanted.iter().filter(|b| **b == b'\n').count();
-    let verdict = if wanted == given {
-        "right"
-    } else {
-        "not all right"
-    };
-    println!(rt; "{session} over {store}: {lines} answers, {verdict}")?;
-    Ok(())
+impl Demo for Session {
+    fn over<S: Shown>(&self, rt: &HostRuntime) -> anyhow::Result<()> {
+        let heap = rt.alloc();
+        let store = S::make(heap, MOST_NODES)?;
+        let given = answer_all(heap, store, self.lines.as_slice(), Vec::new(heap))?;
+        let lines = self.wanted.iter().filter(|b| **b == b'\n').count();
+        let verdict = if self.wanted == given {
+            "right"
+        } else {
+            "not all right"
+        };
+        println!(rt;
+            "{} over {}: {lines} answers, {verdict}",
+            self.name,
+            S::NAME
+        )?;
+        Ok(())
+    }
 }
 
 fn main(rt: HostRuntime) -> anyhow::Result<()> {
-    let heap = rt.alloc();
-    for session in SESSIONS {
-        let lines = fs::read(&rt, format!(in heap; "{session}.in")?)?;
-        let wanted = fs::read(&rt, format!(in heap; "{session}.out")?)?;
-        let ordered = answers(&rt, OrderedList::new(heap, MOST_NODES), &lines)?;
-        let hashed = answers(&rt, HashTable::new(heap, MOST_NODES), &lines)?;
-        tell(&rt, session, "an ordered list", &wanted, &ordered)?;
-        tell(&rt, session, "a hash-consed table", &wanted, &hashed)?;
+    for name in SESSIONS {
+        over_both(&rt, &read_session(&rt, name)?)?;
     }
     Ok(())
 }

@@ -1,5 +1,6 @@
 // Where each byte of a text leads.
-ghost use Rattle.std.specs.Prelude.{◌≡◌, [], ◌∷◌, ◌++◌, length, MatchOption, MatchResult};
+ghost use Rattle.std.specs.Prelude.{◌≡◌, [], ◌∷◌, ◌++◌, length, MatchResult};
+ghost use Rattle.std.specs.ControlFlow.{MatchControlFlow};
 ghost use Rattle.games.specs.Form.{Form as Game};
 ghost use Rattle.games.specs.Text.{close_mark};
 ghost use Rattle.calls.specs.Nests.{Stands, Stepped};
@@ -13,70 +14,74 @@ use super::{Nest, TextSpot};
 use crate::fault::TextFault;
 use arrayvec::ArrayVec;
 use games::side::Side;
+use std::ops::ControlFlow;
 
-impl Nest {
+impl Default for Nest {
+    ghost is_default = { λ nest. Stands nest (wants []) };
+
     // Before a text.
-    pub fn new() -> Nest
-        ensures { Stands result (wants []) }
-    {
+    fn default() -> Nest {
         Nest {
             spot: TextSpot::Form,
             outside: ArrayVec::new(),
         }
     }
+}
 
-    // Takes the byte at the place: where a reader then stands, or `None` behind the last one.
-    pub fn take(self, byte: u8, place: usize) -> Result<Option<Nest>, TextFault>
-        ensures { (q : State) → Stands self q → Stepped q byte place result }
+impl Nest {
+    // Takes the byte at the place: goes on where a reader then stands, or ends behind the last bracket.
+    pub fn take(&mut self, byte: u8, place: usize) -> Result<ControlFlow<()>, TextFault>
+        ensures { (q : State) → Stands self.old q → Stepped q self.new byte place result }
     {
         match (self.spot, byte) {
-            (TextSpot::Form, b'{') => Ok(Some(self.open(place)?)),
-            (TextSpot::Start(side), b'{') => Ok(Some(self.wait(side).open(place)?)),
-            (TextSpot::After(side), b',') => Ok(Some(self.wait(side))),
-            (TextSpot::Start(Side::Left) | TextSpot::After(Side::Left), b'|') => Ok(Some(Nest {
-                spot: TextSpot::Start(Side::Right),
-                outside: self.outside,
-            })),
-            (TextSpot::Start(Side::Right) | TextSpot::After(Side::Right), b'}') => Ok(self.close()),
-            _ => Err(TextFault::WrongByte(place)),
+            (TextSpot::Form, b'{') => self.open(place)?,
+            (TextSpot::Start(side), b'{') => {
+                self.wait(side);
+                self.open(place)?;
+            }
+            (TextSpot::After(side), b',') => self.wait(side),
+            (TextSpot::Start(Side::Left) | TextSpot::After(Side::Left), b'|') => {
+                self.spot = TextSpot::Start(Side::Right);
+            }
+            (TextSpot::Start(Side::Right) | TextSpot::After(Side::Right), b'}') => {
+                return Ok(self.close());
+            }
+            _ => return Err(TextFault::WrongByte(place)),
         }
+        Ok(ControlFlow::Continue(()))
     }
 
     // A bracket opens at the place, where a form is to come.
-    fn open(self, place: usize) -> Result<Nest, TextFault>
-        requires { self.spot ≡ Form }
-        ensures { MatchResult result (λ nest. (nest.spot ≡ Start Left) × (nest.outside.items ≡ self.outside.items)) (λ f. (f ≡ TooDeep place) × (length self.outside.items ≡ 96)) }
+    fn open(&mut self, place: usize) -> Result<(), TextFault>
+        requires { self.old.spot ≡ Form }
+        ensures { MatchResult result (λ _. (self.new.spot ≡ Start Left) × (self.new.outside.items ≡ self.old.outside.items)) (λ f. (f ≡ TooDeep place) × (length self.old.outside.items ≡ 96)) }
     {
         if self.outside.is_full() {
             return Err(TextFault::TooDeep(place));
         }
-        Ok(Nest {
-            spot: TextSpot::Start(Side::Left),
-            outside: self.outside,
-        })
+        self.spot = TextSpot::Start(Side::Left);
+        Ok(())
     }
 
     // The bracket that is open waits for an option of the side.
-    fn wait(self, side: Side) -> Nest
-        requires { open_at self.spot ≡ 1 }
-        ensures form { result.spot ≡ Form }
-        ensures outside { result.outside.items ≡ self.outside.items ++ After side ∷ [] }
+    fn wait(&mut self, side: Side)
+        requires { open_at self.old.spot ≡ 1 }
+        ensures form { self.new.spot ≡ Form }
+        ensures outside { self.new.outside.items ≡ self.old.outside.items ++ After side ∷ [] }
     {
-        let mut outside = self.outside;
-        outside.push(TextSpot::After(side));
-        Nest {
-            spot: TextSpot::Form,
-            outside,
-        }
+        self.spot = TextSpot::Form;
+        self.outside.push(TextSpot::After(side));
     }
 
     // The innermost bracket closes: its form is an option of the next one, or the whole.
-    fn close(self) -> Option<Nest>
-        requires { side_at self.spot ≡ Some Right }
-        ensures { (q : State) → Stands self q → MatchOption result ((g : Game) × (next q close_mark ≡ done g)) (λ nest. Stands nest (next q close_mark)) }
+    fn close(&mut self) -> ControlFlow<()>
+        requires { side_at self.old.spot ≡ Some Right }
+        ensures { (q : State) → Stands self.old q → MatchControlFlow result (λ _. Stands self.new (next q close_mark)) (λ _. (g : Game) × (next q close_mark ≡ done g)) }
     {
-        let mut outside = self.outside;
-        let spot = outside.pop()?;
-        Some(Nest { spot, outside })
+        let Some(spot) = self.outside.pop() else {
+            return ControlFlow::Break(());
+        };
+        self.spot = spot;
+        ControlFlow::Continue(())
     }
 }

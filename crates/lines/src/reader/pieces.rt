@@ -67,7 +67,7 @@ impl<'a> Piece<'a> for Part<'a> {
 
     fn read(reader: &mut Reader<'a>) -> Result<Part<'a>, TextFault> {
         let place = reader.at;
-        reader.walk(Nest::new())?;
+        reader.walk(Nest::default())?;
         Ok(reader.part(place, reader.at))
     }
 }

@@ -1,7 +1,7 @@
 // What a set of nodes does.
 ghost use Rattle.std.specs.Prelude.{◌≡◌, ℕ, ◌%◌, ◌<◌, true, false, cond, not, ◌&&◌, ◌||◌, Decides, MatchOption, ◌==◌, nat_lt};
 ghost use Rattle.bits.specs.Bits.{bit};
-ghost use Rattle.nodesets.specs.Sets.{Lowest, Meet, Next, has, word};
+ghost use Rattle.nodesets.specs.Sets.{Lowest, Meet, Next, TakesLowest, has, word};
 
 use super::{NodeSet, WORDS};
 use games::bounds::MOST_NODES;
@@ -72,6 +72,13 @@ impl NodeSet {
         *self = self.by_words(other, |own, theirs| own & !theirs);
     }
 
+    // What is in both sets.
+    fn intersection(&self, other: &NodeSet) -> NodeSet
+        ensures { (j : ℕ) → has result j ≡ (has self.now j && has other.now j) }
+    {
+        self.by_words(other, |own, theirs| own & theirs)
+    }
+
     // Whether a node is in both sets.
     pub fn meets(&self, other: &NodeSet) -> bool
         ensures { Decides result (Meet (has self.now) (has other.now)) }
@@ -86,8 +93,23 @@ impl NodeSet {
     pub fn common(&self, other: &NodeSet) -> Option<usize>
         ensures { MatchOption result (Meet (has self.now) (has other.now) → ⊥) (λ k. Lowest (has self.now) (has other.now) k) }
     {
-        self.by_words(other, |own, theirs| own & theirs)
-            .next_inside(0)
+        self.intersection(other).next_inside(0)
+    }
+
+    // The lowest number that is not in both sets.
+    pub fn missing(&self, other: &NodeSet) -> Option<usize>
+        ensures { Next (λ k. not (has self.now k && has other.now k)) 0 result }
+    {
+        self.intersection(other).next_outside(0)
+    }
+
+    // The lowest number of the set leaves it.
+    pub fn take_lowest(&mut self) -> Option<usize>
+        ensures { TakesLowest (has self.old) (has self.new) result }
+    {
+        let lowest = self.next_inside(0)?;
+        self.remove(lowest);
+        Some(lowest)
     }
 
     // Whether every node of the set is below n.

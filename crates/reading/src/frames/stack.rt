@@ -24,15 +24,18 @@ impl<T: Options> Default for Frame<T> {
     }
 }
 
-impl<T: Options> Frames<T> {
-    pub(crate) fn none() -> Frames<T>
-        ensures { stack_of result ≡ [] }
-    {
+impl<T: Options> Default for Frames<T> {
+    ghost is_default = { λ frames. stack_of frames ≡ [] };
+
+    // No bracket is open.
+    fn default() -> Frames<T> {
         Frames {
             items: ArrayVec::new(),
         }
     }
+}
 
+impl<T: Options> Frames<T> {
     // A bracket more.
     pub(crate) fn open(&mut self)
         requires { length (stack_of self.old) < 96 }

@@ -21,35 +21,29 @@ impl Tables {
         Ok(Tables { nodes, listing })
     }
 
-    // One more node, and its number in the listing.
-    fn append(&mut self, form: &Pair)
+    // One more node, and its number in the listing; answers the number.
+    fn append(&mut self, form: &Pair) -> usize
         requires room { count self.old < 384 }
         requires within { Within (count self.old) (by form.now) }
         requires canonical { Canonical (form_of self.old (by form.now)) }
         requires fresh { Fresh self.old (by form.now) }
-        ensures { rows_of self.new ≡ rows_of self.old ++ (row_of self.old (by form.now) ∷ []) }
+        ensures number { result ≡ count self.old }
+        ensures rows { rows_of self.new ≡ rows_of self.old ++ (row_of self.old (by form.now) ∷ []) }
     {
         let number = self.nodes.count();
         self.nodes.push(form);
         let place = self.nodes.place(&self.listing, number);
         let _ = self.listing.insert(place, number as u16);
+        number
     }
 
     // The new row that the two sets seal to, if they do, becomes the last node while there is room; answers its number.
     pub fn extend(&mut self, moves: &Pair) -> Option<usize>
         ensures { Extended result self.old self.new (by moves.now) }
     {
-        let Ok(sealed) = self.find(moves) else {
-            return None;
-        };
-        let Sealed::New(form) = sealed else {
-            return None;
-        };
-        let number = self.nodes.count();
-        if number == MOST_NODES {
-            return None;
+        match self.find(moves) {
+            Ok(Sealed::New(form)) if self.nodes.count() < MOST_NODES => Some(self.append(&form)),
+            _ => None,
         }
-        self.append(&form);
-        Some(number)
     }
 }

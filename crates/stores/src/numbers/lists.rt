@@ -26,11 +26,12 @@ impl<const MOST: usize> Numbers<MOST> {
         if numbers.len() > MOST {
             return None;
         }
-        let mut kept = Numbers::default();
-        for number in numbers {
-            kept.push(*number);
-        }
-        Some(kept)
+        let mut items = [0; MOST];
+        items[..numbers.len()].copy_from_slice(numbers);
+        Some(Numbers {
+            items,
+            count: numbers.len(),
+        })
     }
 
     // One number more, if there is room.

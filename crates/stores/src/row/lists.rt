@@ -1,13 +1,36 @@
-// How a row is made and read.
+// How the numbers of both sides are made and read.
 ghost use Rattle.std.specs.Prelude.{◌≡◌, ◌≤◌, length};
 ghost use Rattle.std.specs.Option.{option_map};
 ghost use Rattle.games.specs.Numbered.{list_of};
-ghost use Rattle.stores.specs.Rows.{all_below, names_below, row_of_lists};
+ghost use Rattle.stores.specs.Rows.{all_below, names_below, pushed, row_of_lists};
 ghost use Rattle.stores.specs.Reading.{lists_of};
 
-use super::Row;
+use super::{Row, Sides};
 use crate::numbers::Numbers;
 use games::side::Side;
+
+impl<const MOST: usize> Sides<MOST> {
+    // The list of a side.
+    pub fn list(&self, side: Side) -> &[u16]
+        ensures value { result.now ≡ list_of side (lists_of self.now) }
+        ensures few { length result.now ≤ MOST }
+    {
+        match side {
+            Side::Left => self.left.list(),
+            Side::Right => self.right.list(),
+        }
+    }
+
+    // One number more on a side, if there is room.
+    pub fn push(&mut self, side: Side, number: u16)
+        ensures { lists_of self.new ≡ pushed MOST side number (lists_of self.old) }
+    {
+        match side {
+            Side::Left => self.left.push(number),
+            Side::Right => self.right.push(number),
+        }
+    }
+}
 
 impl Row {
     // The row with these two lists, unless one has more than 16 numbers.
@@ -16,18 +39,7 @@ impl Row {
     {
         let left = Numbers::new(left)?;
         let right = Numbers::new(right)?;
-        Some(Row { left, right })
-    }
-
-    // The list of a side.
-    pub fn list(&self, side: Side) -> &[u16]
-        ensures value { result.now ≡ list_of side (lists_of self.now) }
-        ensures few { length result.now ≤ 16 }
-    {
-        match side {
-            Side::Left => self.left.list(),
-            Side::Right => self.right.list(),
-        }
+        Some(Sides { left, right })
     }
 
     // Whether the row names only numbers below `limit`.

@@ -1,7 +1,7 @@
 -- The text is checked, and then each bracket's row is looked for as it closes.
 use Rattle.std.proofs.Common.{◌≡◌, Err, Bor, rules}
 use Rattle.dictionary.specs.Holding.{Holding}
-use Rattle.reading.specs.declared.fault.LookUpFault.TheVariants.{Text}
+use Rattle.reading.specs.declared.fault.FormFault.TheVariants.{Text}
 use Rattle.reading.proofs.Looked.{look_text, look_faulty, finds_nodes, finds_none}
 use Rattle.reading.proofs.look_up.look_up.Goals as goal
 

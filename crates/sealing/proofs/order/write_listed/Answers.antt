@@ -1,48 +1,31 @@
--- One more node of the listing is written, or not.
-use Rattle.std.proofs.Common.{◌≡◌, ℕ, ◌+◌, true, List, ◌++◌, length, get_or, take, drop, set, filter, sym, refl, ap, ◌∙◌, ap₂, arith, rules}
-use Rattle.std.proofs.lemmas.List.{take_all}
+-- One more node is written, if there is room for it.
+use Rattle.std.proofs.Common.{◌≡◌, length, filter, sym, ap, ◌∙◌, arith, rules, tests}
+use Rattle.std.proofs.lemmas.Iterator.{YieldsList-from_slice}
+use Rattle.std.proofs.lemmas.Iterator.Consumers.{YieldsList-at, YieldsList-from_filter, YieldsList-from_enumerate, YieldsList-turn, YieldsList-end}
+use Rattle.std.proofs.lemmas.List.{length_push, take_all}
+use Rattle.std.proofs.lemmas.List.FromFn.{length-enumerate_from}
 use Rattle.nodesets.specs.Sets.{has}
-use Rattle.sealing.proofs.Writing.{written, written_none, write_more, write_full, kept_with, kept_without, count_with}
+use Rattle.sealing.proofs.Writing.{written, written_none, write_next, skip_next}
 use Rattle.sealing.proofs.order.write_listed.Goals as goal
-use Rattle.sealing.proofs.order.write_listed.Goals.{then-contains, then-n-buffer, else-n-buffer, else-contains}
 
-pub loop-node-init : goal.loop-node-init
-loop-node-init c = (refl, omega arith, sym (written_none c.args.buffer.now))
+pub loop-n-init : goal.loop-n-init
+loop-n-init c = sym (written_none c.args.buffer.now)
 
-pub loop-node-preserved : goal.loop-node-preserved
-loop-node-preserved c =
-    let p = has c.args.set.now in
-    let ks = c.args.listing.now in
-    let i = c.loop-node.node-index in
-    let b = c.args.buffer.now in
-    let xs : List ℕ = filter p (take i ks) in
-    let e : c.loop-node.n ≡ length xs = c.loop-node.invariant.0 in
-    let was : c.loop-node.buffer ≡ written b xs = c.loop-node.invariant.2 in
-    let is : c.contains.result ≡ p (get_or ks i 0) = rw c.from.ensures at c.contains.ensures in
-    let same : length c.loop-node.buffer ≡ length b = search rules in
-    elim c.if-contains.branch [
-      | then-contains w ↦
-          let t : p (get_or ks i 0) ≡ true = sym is ∙ w.if-contains.true in
-          let next = kept_with p ks i c.loop-node-test.true t in (
-            w.n-is ∙ ap (λ n. n + 1) e ∙ sym (count_with p ks i c.loop-node-test.true t),
-            omega (arith, w.n-is, c.loop-node.invariant.1),
-            elim w.if-n-buffer.branch [
-              | then-n-buffer v ↦
-                  w.buffer-is ∙ v.buffer-is ∙ ap₂ (λ (z : List ℕ) (n : ℕ). set z n (get_or ks i 0)) was e ∙ write_more b xs (get_or ks i 0) (omega (arith, v.if-n-buffer.true)) ∙ ap (written b) (sym next)
-              | else-n-buffer v ↦ w.buffer-is ∙ v.buffer-is ∙ was ∙ write_full b xs (get_or ks i 0) (omega (arith, v.if-n-buffer.false)) ∙ ap (written b) (sym next)
-            ],
-          )
-      | else-contains w ↦
-          let next = kept_without p ks i c.loop-node-test.true (sym is ∙ w.if-contains.false) in
-          (w.n-is ∙ e ∙ ap length (sym next), omega (arith, w.n-is, c.loop-node.invariant.1), w.buffer-is ∙ was ∙ ap (written b) (sym next))
-    ]
+pub loop-n-preserved-then-n-buffer : goal.loop-n-preserved-then-n-buffer
+loop-n-preserved-then-n-buffer c =
+    let t = YieldsList-turn (YieldsList-at c.into_iter-n-iterator.ensures.into_iter_gives (YieldsList-from_enumerate (YieldsList-at c.enumerate-n-items.ensures.source (YieldsList-from_filter _ (has c.args.set.now) (YieldsList-from_slice c.args.listing.now cc) c.filter-listed.ensures.closure (λ x r q k. search (rules, tests)))) cc)) c.loop-n.yielded _ c.loop-n.yielded_by _ _ (c.in-Some.n, c.in-Some.node) c.in-Some.is c.next.ensures.steps in
+    let same : length c.loop-n.buffer ≡ length c.args.buffer.now = search rules in
+    rw (length_push c.loop-n.yielded (c.in-Some.n, c.in-Some.node)) (write_next c.args.buffer.now (filter (has c.args.set.now) c.args.listing.now) (length c.loop-n.yielded) c.in-Some.n c.in-Some.node.now t c.loop-n.buffer c.loop-n.invariant (omega (arith, c.if-n-buffer.true)))
 
-pub returns : goal.returns
-returns c =
-    let p = has c.args.set.now in
-    let all : take c.loop-node.node-index c.args.listing.now ≡ c.args.listing.now = take_all c.loop-node.node-index c.args.listing.now (omega arith) in
-    let n : c.loop-node.n ≡ length (filter p c.args.listing.now) = c.loop-node.invariant.0 ∙ ap (λ ks. length (filter p ks)) all in
-    record {
-      number = n;
-      written = c.loop-node.invariant.2 ∙ ap (λ ks. written c.args.buffer.now (filter p ks)) all ∙ ap (λ m. take (length c.args.buffer.now) (filter p c.args.listing.now) ++ drop m c.args.buffer.now) (sym n);
-    }
+pub loop-n-preserved : goal.loop-n-preserved
+loop-n-preserved c =
+    let t = YieldsList-turn (YieldsList-at c.into_iter-n-iterator.ensures.into_iter_gives (YieldsList-from_enumerate (YieldsList-at c.enumerate-n-items.ensures.source (YieldsList-from_filter _ (has c.args.set.now) (YieldsList-from_slice c.args.listing.now cc) c.filter-listed.ensures.closure (λ x r q k. search (rules, tests)))) cc)) c.loop-n.yielded _ c.loop-n.yielded_by _ _ (c.in-Some.n, c.in-Some.node) c.in-Some.is c.next.ensures.steps in
+    let same : length c.loop-n.buffer ≡ length c.args.buffer.now = search rules in
+    rw (length_push c.loop-n.yielded (c.in-Some.n, c.in-Some.node)) (skip_next c.args.buffer.now (filter (has c.args.set.now) c.args.listing.now) (length c.loop-n.yielded) c.in-Some.n c.in-Some.node.now t c.loop-n.buffer c.loop-n.invariant (omega (arith, c.if-n-buffer.false)))
+
+pub returns-clause-written : goal.returns-clause-written
+returns-clause-written c =
+    let t = YieldsList-end (YieldsList-at c.into_iter-n-iterator.ensures.into_iter_gives (YieldsList-from_enumerate (YieldsList-at c.enumerate-n-items.ensures.source (YieldsList-from_filter _ (has c.args.set.now) (YieldsList-from_slice c.args.listing.now cc) c.filter-listed.ensures.closure (λ x r q k. search (rules, tests)))) cc)) c.loop-n.yielded _ c.loop-n.yielded_by _ _ c.in-None.is c.next.ensures.steps in
+    let ys = filter (has c.args.set.now) c.args.listing.now in
+    let n = length-enumerate_from 0 ys in
+    rw c.count_listed.ensures (c.loop-n.invariant ∙ ap (written c.args.buffer.now) (take_all (length c.loop-n.yielded) ys (omega (arith, t.1))))

@@ -5,14 +5,19 @@ use Rattle.rulesets.specs.Remaining.{moves_left}
 use Rattle.rulesets.proofs.Positions.{left_none, left_some}
 use Rattle.calls.specs.Positions.{FirstMoves}
 use Rattle.valuing.specs.Answers.{answer_at}
-use Rattle.valuing.specs.Moved.{Earliest}
+use Rattle.valuing.specs.Moved.{Earliest, Moved}
 use Rattle.valuing.specs.Sure.{Sure}
 use Rattle.valuing.proofs.Noted.{sure_empty}
 use Rattle.valuing.proofs.Earliest.{broke, no_earliest, one_tried, tried, tried_earliest, tries}
+use Rattle.valuing.proofs.Stepped.{first_move_steps}
 use Rattle.valuing.proofs.first_move.first_move_with.Goals as goal
 
 pub returns-then-not-is_legal : goal.returns-then-not-is_legal
-returns-then-not-is_legal g c = record { moved = record { entries = []; holds = FirstMoves.illegal (search rules) }; earliest = tt; room = refl }
+returns-then-not-is_legal g c =
+    let R = g.R.Ruleset.rules c.args.board.now in
+    let d = c.args.dictionary.now in
+    let moved : Moved R d.room d.rows c.args.side c.args.code _ d.rows = record { entries = []; holds = FirstMoves.illegal (search rules) } in
+    record { moved = moved; step = first_move_steps R (g.met.R.Ruleset.lawful c.args.board.now) d.room d.rows c.args.side c.args.code _ d.rows moved; earliest = tt; room = refl }
 
 pub loop-index-init : goal.loop-index-init
 loop-index-init g c =
@@ -36,9 +41,11 @@ returns-in_err-number g c =
     let i = enumerate_count c.loop-index.index-iterator in
     let at = (left_some (R.moves c.args.side c.args.code) i c.in-Some.next _ (sym c.loop-index.invariant.left ∙ c.in-Some.ensures.steps.0)).0 in
     let e : c.from_residual.result ≡ Err c.in_err-number.field-0.0 = search rules in
+    let moved = broke R l c.args.side c.args.code (search rules) i c.in-Some.next c.loop-index.winning d₀.room d.room d₀.rows d.rows c.enter.new.dictionary.rows
+    (Sure R d.rows (g.M.Notes.holds c.loop-index.memory)) c.from_residual.result c.in_err-number.field-0.0 e c.loop-index.invariant.trying at c.in_err-number.ensures.entered in
     record {
-      moved = broke R l c.args.side c.args.code (search rules) i c.in-Some.next c.loop-index.winning d₀.room d.room d₀.rows d.rows c.enter.new.dictionary.rows
-          (Sure R d.rows (g.M.Notes.holds c.loop-index.memory)) c.from_residual.result c.in_err-number.field-0.0 e c.loop-index.invariant.trying at c.in_err-number.ensures.entered;
+      moved = moved;
+      step = first_move_steps R l d₀.room d₀.rows c.args.side c.args.code _ c.enter.new.dictionary.rows moved;
       earliest = subst (λ y. Earliest R c.args.side c.args.code (answer_at y)) (sym e) (no_earliest R c.args.side c.args.code c.in_err-number.field-0.0);
       room = c.in_err-number.ensures.room ∙ c.loop-index.invariant.trying.room;
     }
@@ -69,9 +76,11 @@ returns g c =
     let d = c.loop-index.dictionary in
     let i = enumerate_count c.loop-index.index-iterator in
     let all = left_none (R.moves c.args.side c.args.code) i (sym c.loop-index.invariant.left ∙ c.in-None.ensures.steps.0.0) in
+    let moved = tried R l c.args.side c.args.code (search rules) i c.loop-index.winning d₀.room d.room d₀.rows d.rows
+    (Sure R d.rows (g.M.Notes.holds c.loop-index.memory)) all c.loop-index.invariant.trying in
     record {
-      moved = tried R l c.args.side c.args.code (search rules) i c.loop-index.winning d₀.room d.room d₀.rows d.rows
-          (Sure R d.rows (g.M.Notes.holds c.loop-index.memory)) all c.loop-index.invariant.trying;
+      moved = moved;
+      step = first_move_steps R l d₀.room d₀.rows c.args.side c.args.code _ d.rows moved;
       earliest = tried_earliest R l c.args.side c.args.code i c.loop-index.winning d₀.room d.room d₀.rows d.rows
           (Sure R d.rows (g.M.Notes.holds c.loop-index.memory)) c.loop-index.invariant.trying;
       room = c.loop-index.invariant.trying.room;

@@ -3,7 +3,7 @@ use Rattle.calls.proofs.Nesting.{closes_last, closes_inside}
 use Rattle.calls.proofs.nest.Nest.close.Goals as goal
 
 pub returns : goal.returns
-returns c q s = closes_inside _ _ _ _ q c.requires s c.in_ok-spot.ensures.items
+returns c q s = closes_inside _ _ _ _ q c.requires s c.in-Some.ensures.items
 
-pub returns-in_err-spot : goal.returns-in_err-spot
-returns-in_err-spot c q s = rw c.from_residual.ensures (closes_last _ c.args.self.outside.items q c.requires s (search rules))
+pub returns-in_default : goal.returns-in_default
+returns-in_default c q s = closes_last _ c.args.self.now.outside.items q c.requires s (search rules)

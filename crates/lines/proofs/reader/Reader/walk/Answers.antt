@@ -3,32 +3,30 @@ use Rattle.std.proofs.lemmas.Result.{err_from_is_err_and}
 use Rattle.lines.proofs.Underway.{underway_start, underway_early, underway_refused, underway_more, underway_end}
 use Rattle.lines.proofs.reader.Reader.walk.Goals as goal
 
-pub loop-next-init : goal.loop-next-init
-loop-next-init g c = underway_start _ _
+pub loop-walk-init : goal.loop-walk-init
+loop-walk-init g c = underway_start _ _
 
 pub returns-in_err-peek : goal.returns-in_err-peek
 returns-in_err-peek g c =
     let p = err_from_is_err_and c.from_residual.result c.from_residual.ensures.1 in
     let h = c.in_err-peek.ensures in
-    rw (p.1, p.2) (underway_early c.loop-next.invariant c.loop-next.self refl _ (g.met.W.Walk.ongoing c.loop-next.walk) h.0 h.1)
+    rw (p.1, p.2) (underway_early c.loop-walk.invariant c.loop-walk.self refl _ (g.met.W.Walk.ongoing c.loop-walk.walk) h.0 h.1)
 
-pub returns-in_err-next : goal.returns-in_err-next
-returns-in_err-next g c =
-    let p = err_from_is_err_and c.from_residual-in_err-next.result c.from_residual-in_err-next.ensures.1 in
+pub returns-in_err-step : goal.returns-in_err-step
+returns-in_err-step g c =
+    let p = err_from_is_err_and c.from_residual-in_err-step.result c.from_residual-in_err-step.ensures.1 in
     let h = c.in_ok-peek.ensures in
-    rw (p.1, p.2) (underway_refused c.loop-next.invariant c.loop-next.self refl c.in_ok-peek.field-0 h.0 h.1 _ (g.met.W.Walk.ongoing c.loop-next.walk) c.in_err-next.ensures)
+    rw (p.1, p.2) (underway_refused c.loop-walk.invariant c.loop-walk.self refl c.in_ok-peek.field-0 h.0 h.1 _ (g.met.W.Walk.ongoing c.loop-walk.walk) c.in_err-step.ensures)
 
-pub loop-next-smaller : goal.loop-next-smaller
-loop-next-smaller g c = let l = c.in_ok-peek.ensures.0 in omega arith
+pub loop-walk-smaller : goal.loop-walk-smaller
+loop-walk-smaller g c = let l = c.in_ok-peek.ensures.0 in omega arith
 
-pub loop-next-preserved : goal.loop-next-preserved
-loop-next-preserved g c =
+pub loop-walk-preserved : goal.loop-walk-preserved
+loop-walk-preserved g c =
     let h = c.in_ok-peek.ensures in
-    let e = rw c.in-Some.is at c.in_ok-next.ensures in
-    underway_more c.loop-next.invariant _ refl c.in_ok-peek.field-0 h.0 h.1 (g.W.Walk.stack c.in-Some.next) refl e (g.met.W.Walk.ongoing c.in-Some.next).few
+    underway_more c.loop-walk.invariant _ refl c.in_ok-peek.field-0 h.0 h.1 g.W.Walk.last (g.W.Walk.stack c.step.new.self) refl c.in_ok-step.field-0 c.in_ok-step.ensures c.if-is_continue.ensures (g.met.W.Walk.ongoing c.step.new.self).few
 
 pub returns : goal.returns
 returns g c =
     let h = c.in_ok-peek.ensures in
-    let e = rw c.in_default.is at c.in_ok-next.ensures in
-    underway_end c.loop-next.invariant _ refl c.in_ok-peek.field-0 h.0 h.1 g.W.Walk.last refl e.0 e.1
+    underway_end c.loop-walk.invariant _ refl c.in_ok-peek.field-0 h.0 h.1 g.W.Walk.last (g.W.Walk.stack c.step.new.self) refl c.in_ok-step.field-0 c.in_ok-step.ensures c.if-is_continue.ensures

@@ -55,4 +55,7 @@ returns c =
     let t = c.args.self.now in
     let o = by c.args.form.now in
     let ok : is_ok c.insert.result ≡ true = c.insert.ensures.succeeds (room t c.push.new.self o c.push.ensures) in
-    rows_after t c.push.new.self o c.push.ensures (vec_items c.insert.new.self) (is_ok c.insert.result) c.place-place.result c.count-number.result c.count-number.ensures ok c.insert.ensures.items c.requires.within
+    record {
+      number = c.count-number.ensures ∙ count_is t;
+      rows = rows_after t c.push.new.self o c.push.ensures (vec_items c.insert.new.self) (is_ok c.insert.result) c.place-place.result c.count-number.result c.count-number.ensures ok c.insert.ensures.items c.requires.within;
+    }

@@ -1,5 +1,0 @@
--- The number falls.
-use Rattle.calculator.proofs.writing.+digits.Given as goal
-
-abbrev pub decreases-digits : goal.decreases-digits
-decreases-digits l = l.number
