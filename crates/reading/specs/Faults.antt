@@ -9,9 +9,11 @@ use Rattle.reading.specs.declared.fault.FormFault.{FormFault}
 use Rattle.reading.specs.declared.fault.FormFault.TheVariants.{Text, Bracket}
 use Rattle.reading.specs.declared.fault.NoRow.{NoRow}
 
+-- why a text is not read: its own fault, or a bracket that is not sealed
 abbrev pub ReadFault : Type 0
 ReadFault = FormFault DictionaryFault
 
+-- why a text is not found: its own fault, or a bracket that is no row
 abbrev pub LookUpFault : Type 0
 LookUpFault = FormFault NoRow
 
