@@ -12,7 +12,8 @@ pub fn count_bits(word: u64) -> usize
     word.count_ones() as usize
 }
 
-// The place of the set bit with this index, counted from the lowest, or `None` when there are fewer.
+// The place of the set bit with this index, counted from the lowest,
+// or `None` when there are fewer.
 pub fn nth_bit(word: u64, index: usize) -> Option<u32>
     ensures { result ≡ slice_get (places 64 (bit word)) index }
 {

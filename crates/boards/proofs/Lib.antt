@@ -5,9 +5,11 @@ pub mod Codes
 pub mod Strips
 pub mod Squares
 pub mod RowByRow
+pub mod RowsSpelt
 pub mod Tables
 pub mod Vertices
 pub mod EdgeByEdge
+pub mod EdgesSpelt
 pub mod Pictured
 pub mod Legal
 pub mod WorkedBoards

@@ -1,6 +1,6 @@
 -- A Hackenbush picture set up from its written edges.
 -- Assumes nothing.
-use Rattle.std.proofs.Common.{◌≡◌, ℕ, ◌-◌, ◌*◌, ◌%◌, ◌^◌, true, false, ◌&&◌, leb, List, length, Some, None, Option, sym, ap, ◌∙◌, subst, ⊎_elim, arith}
+use Rattle.std.proofs.Common.{◌≡◌, ℕ, ◌-◌, ◌*◌, ◌%◌, ◌^◌, true, false, ◌&&◌, leb, List, [], length, Some, None, Option, sym, ap, ◌∙◌, subst, ⊎_elim, arith}
 use Rattle.std.proofs.lemmas.List.{length-map}
 use Rattle.std.proofs.lemmas.Bool.{cond-true, cond-false, cases_Bool, and_parts}
 use Rattle.rulesets.specs.Rules.{Rules}
@@ -11,13 +11,13 @@ use Rattle.hackenbush.specs.Reading.{fits_length}
 use Rattle.lines.specs.Syntax.{Items, Edge, hackenbush, items_of}
 use Rattle.boards.specs.declared.setup.edges.Edges.{Edges}
 use Rattle.boards.specs.Boards.{all, joint, joints, edges_position, meaning}
-use Rattle.boards.specs.EdgesRead.{no_edges, edges_read}
+use Rattle.boards.specs.EdgesRead.{edges_read}
 use Rattle.boards.proofs.Same.{at_code, same_position}
 use Rattle.boards.proofs.EdgeByEdge.{Outcome, edges_outcome}
 
 module _ (text : List ℕ) (edges : Items Edge) (e : text ≡ items_of (hackenbush edges)) where
-  outcome : (o : Option Edges) → o ≡ edges_read text → Outcome no_edges (all edges) o
-  outcome o r = subst (Outcome no_edges (all edges)) (sym (r ∙ ap edges_read e)) (edges_outcome edges)
+  outcome : (o : Option Edges) → o ≡ edges_read text → Outcome [] (all edges) o
+  outcome o r = subst (Outcome [] (all edges)) (sym (r ∙ ap edges_read e)) (edges_outcome edges)
 
   -- too many edges, or a vertex that is too high
   pub edges_refused : None ≡ edges_read text → meaning (hackenbush edges) ≡ None

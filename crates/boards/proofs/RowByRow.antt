@@ -150,7 +150,7 @@ module _ (s : Begun) (row : Items Square) (rows : List (Items Square)) where
       absurd (no_fit (subst (Suits s.columns) (sym n) v))
 
 -- the bytes after the first row
-abbrev rest_of : List (Items Square) → List ℕ
+abbrev pub rest_of : List (Items Square) → List ℕ
 rest_of rows = spell_more (47 ∷ []) spell_row rows
 
 module _ (s : Begun) (ready : Ready s) (row : Items Square) (rows : List (Items Square)) (rest : List ℕ) where

@@ -1,6 +1,6 @@
 -- A board of any kind, and setting one up.
 -- Assumes nothing.
-use Rattle.std.specs.Prelude.{◌≡◌, Some, None, Ok, Err, Result}
+use Rattle.std.specs.Prelude.{◌≡◌, ℕ, List, Some, None, Ok, Err, Result}
 use Rattle.rulesets.specs.Rules.{Rules}
 use Rattle.rulesets.specs.declared.fault.BoardFault.{BoardFault}
 use Rattle.rulesets.specs.declared.fault.BoardFault.TheVariants.{Size}
@@ -8,7 +8,7 @@ use Rattle.domineering.specs.Making.{board_rules}
 use Rattle.toads.specs.Making.{strip_rules}
 use Rattle.hackenbush.specs.Hackenbush.{hackenbush}
 use Rattle.hackenbush.specs.Pictures.{edges_of}
-use Rattle.lines.specs.Syntax.{Board}
+use Rattle.lines.specs.Syntax.{Board, items_of}
 use Rattle.boards.specs.declared.board.AnyBoard.{AnyBoard}
 use Rattle.boards.specs.declared.board.AnyBoard.TheVariants.{Domineering, Toads, Hackenbush}
 use Rattle.boards.specs.declared.setup.Setup.{Setup}
@@ -28,3 +28,7 @@ position s = record { rules = any_rules s.board; code = s.code }
 abbrev pub SetUp : Board → Result Setup BoardFault → Type 0
 SetUp b (Ok s) = meaning b ≡ Some (position s)
 SetUp b (Err e) = (meaning b ≡ None) × (e ≡ Size)
+
+-- The bytes spell no board of this kind.
+abbrev pub SpellsNone : {A : Type 0} → (A → Board) → List ℕ → Type 0
+SpellsNone {A = A} kind items = (written : A) → ¬ (items ≡ items_of (kind written))

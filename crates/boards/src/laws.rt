@@ -1,4 +1,5 @@
-// The theorems on written boards, each asked for by the contract of a function that does nothing else.
+// The theorems on written boards, each asked for by the contract of a function
+// that does nothing else.
 ghost use Rattle.boards.specs.Laws.{CellsLegal, CodesBelow, RowsLegal};
 ghost use Rattle.boards.specs.Worked.{WorkedBoards};
 

@@ -1,7 +1,8 @@
 // Setting up a board from the bytes of its items; bytes that spell no board are refused too.
-ghost use Rattle.std.specs.Prelude.{◌≡◌};
+ghost use Rattle.std.specs.Prelude.{◌≡◌, Err};
+ghost use Rattle.rulesets.specs.declared.fault.BoardFault.TheVariants.{Size};
 ghost use Rattle.lines.specs.Syntax.{Cell, Edge, Items, Square, domineering, hackenbush, items_of, toads};
-ghost use Rattle.boards.specs.AnyBoards.{SetUp};
+ghost use Rattle.boards.specs.AnyBoards.{SetUp, SpellsNone};
 ghost use Rattle.boards.specs.Laws.{CellsRead, EdgesStand, RowsRead, SquaresRead};
 
 use crate::board::AnyBoard;
@@ -24,7 +25,9 @@ pub struct Setup {
 
 // The rows have one length, so the squares tell how many they are.
 pub fn set_up_domineering(items: &[u8]) -> Result<Setup, BoardFault>
-    ensures set { (rows : Items (Items Square)) → items.now ≡ items_of (domineering rows) → SetUp (domineering rows) result }
+    ensures set { (rows : Items (Items Square)) → items.now ≡ items_of (domineering rows)
+        → SetUp (domineering rows) result }
+    ensures others { SpellsNone domineering items.now → result ≡ Err Size }
     ensures squares { SquaresRead }
     ensures rowwise { RowsRead }
 {
@@ -37,7 +40,9 @@ pub fn set_up_domineering(items: &[u8]) -> Result<Setup, BoardFault>
 }
 
 pub fn set_up_toads(items: &[u8]) -> Result<Setup, BoardFault>
-    ensures set { (cells : Items Cell) → items.now ≡ items_of (toads cells) → SetUp (toads cells) result }
+    ensures set { (cells : Items Cell) → items.now ≡ items_of (toads cells)
+        → SetUp (toads cells) result }
+    ensures others { SpellsNone toads items.now → result ≡ Err Size }
     ensures digits { CellsRead }
 {
     let position = Position::read(items).map_err(|_| BoardFault::Size)?;
@@ -49,7 +54,9 @@ pub fn set_up_toads(items: &[u8]) -> Result<Setup, BoardFault>
 
 // Every edge stands.
 pub fn set_up_hackenbush(items: &[u8]) -> Result<Setup, BoardFault>
-    ensures set { (edges : Items Edge) → items.now ≡ items_of (hackenbush edges) → SetUp (hackenbush edges) result }
+    ensures set { (edges : Items Edge) → items.now ≡ items_of (hackenbush edges)
+        → SetUp (hackenbush edges) result }
+    ensures others { SpellsNone hackenbush items.now → result ≡ Err Size }
     ensures standing { EdgesStand }
 {
     let edges = Edges::read(items).ok_or(BoardFault::Size)?.edges;

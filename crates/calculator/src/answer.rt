@@ -20,7 +20,9 @@ impl<S: Store> Calculator<S> {
         question: &Question<'_>,
         out: &mut [u8; LONGEST_ANSWER],
     ) -> Result<usize, CalculatorFault>
-        ensures replied { (l : Line) → Describes question.now l → length (spell l) ≤ 1000 → Replied self.old.dictionary.room self.old.dictionary.rows l out.old out.new self.new.dictionary.rows result }
+        ensures replied { (l : Line) → Describes question.now l → length (spell l) ≤ 1000
+            → Replied self.old.dictionary.room self.old.dictionary.rows l out.old out.new
+            self.new.dictionary.rows result }
         ensures room { self.new.dictionary.room ≡ self.old.dictionary.room }
     {
         match question {
@@ -36,7 +38,8 @@ impl<S: Store> Calculator<S> {
         line: &[u8],
         out: &mut [u8; LONGEST_ANSWER],
     ) -> Result<usize, CalculatorFault>
-        ensures handled { Handled self.old.dictionary.room self.old.dictionary.rows line.now out.old out.new self.new.dictionary.rows result }
+        ensures handled { Handled self.old.dictionary.room self.old.dictionary.rows line.now out.old
+            out.new self.new.dictionary.rows result }
         ensures room { self.new.dictionary.room ≡ self.old.dictionary.room }
     {
         if line.len() > LONGEST_LINE {
@@ -46,10 +49,11 @@ impl<S: Store> Calculator<S> {
         self.reply(&question, out)
     }
 
-    // Writes the answer to a line at the front of the buffer, and tells its length. A fault is an answer too;
-    // only a buffer that an answer may not fit into is refused.
+    // Writes the answer to a line at the front of the buffer, and tells its length.
+    // A fault is an answer too; only a buffer that an answer may not fit into is refused.
     pub fn answer(&mut self, line: &[u8], buffer: &mut [u8]) -> Result<usize, BufferFault>
-        ensures answered { Answered self.old.dictionary.room self.old.dictionary.rows line.now buffer.old buffer.new self.new.dictionary.rows result }
+        ensures answered { Answered self.old.dictionary.room self.old.dictionary.rows line.now
+            buffer.old buffer.new self.new.dictionary.rows result }
         ensures room { self.new.dictionary.room ≡ self.old.dictionary.room }
         ensures laws { AnswersKeepTheLaws }
     {

@@ -13,9 +13,11 @@ pub struct Calculator<S: Store> {
 }
 
 impl<S: Store + Drop> Calculator<S> {
-    // A calculator with a new dictionary over the store, whose rows go. There may be no memory for it.
+    // A calculator with a new dictionary over the store, whose rows go.
+    // There may be no memory for it.
     pub fn begin(heap: Global, store: S) -> Result<Calculator<S>, AllocError>
-        ensures { IfOk result (λ c. (c.dictionary.rows ≡ []) × (c.dictionary.room ≡ S.Store.room store)) }
+        ensures { IfOk result (λ c. (c.dictionary.rows ≡ [])
+            × (c.dictionary.room ≡ S.Store.room store)) }
     {
         let dictionary = Dictionary::begin(heap, store)?;
         Ok(Calculator {

@@ -36,7 +36,8 @@ impl<S: Store> Calculator<S> {
         board: &R,
         code: u64,
     ) -> Result<u16, CalculatorFault>
-        ensures valued { ValuedAt (R.Ruleset.rules board.now) self.old.dictionary.room self.old.dictionary.rows place code (answer_of result) self.new.dictionary.rows }
+        ensures valued { ValuedAt (R.Ruleset.rules board.now) self.old.dictionary.room
+            self.old.dictionary.rows place code (answer_of result) self.new.dictionary.rows }
         ensures room { self.new.dictionary.room ≡ self.old.dictionary.room }
     {
         value_with(&mut self.dictionary, &mut self.memory, board, code).map_err(
@@ -46,7 +47,9 @@ impl<S: Store> Calculator<S> {
 
     // A board.
     fn enter_plain(&mut self, place: usize, board: &Board<'_>) -> Result<u16, CalculatorFault>
-        ensures entered { (b : Written) → DescribesBoard place board.now b → EntersSubject self.old.dictionary.room self.old.dictionary.rows place (plain b) (answer_of result) self.new.dictionary.rows }
+        ensures entered { (b : Written) → DescribesBoard place board.now b
+            → EntersSubject self.old.dictionary.room self.old.dictionary.rows place (plain b)
+            (answer_of result) self.new.dictionary.rows }
         ensures room { self.new.dictionary.room ≡ self.old.dictionary.room }
     {
         let setup = stand(board)?;
@@ -55,7 +58,10 @@ impl<S: Store> Calculator<S> {
 
     // The minus of a board, which stands at a place of its own.
     fn enter_minus(&mut self, place: usize, board: &Board<'_>) -> Result<u16, CalculatorFault>
-        ensures entered { (b : Written) → DescribesBoard (place + length (codes "(minus ")) board.now b → EntersSubject self.old.dictionary.room self.old.dictionary.rows place (minus b) (answer_of result) self.new.dictionary.rows }
+        ensures entered { (b : Written)
+            → DescribesBoard (place + length (codes "(minus ")) board.now b
+            → EntersSubject self.old.dictionary.room self.old.dictionary.rows place (minus b)
+            (answer_of result) self.new.dictionary.rows }
         ensures room { self.new.dictionary.room ≡ self.old.dictionary.room }
     {
         let setup = stand(board)?;
@@ -69,7 +75,12 @@ impl<S: Store> Calculator<S> {
         first: &Board<'_>,
         second: &Board<'_>,
     ) -> Result<u16, CalculatorFault>
-        ensures entered { (a b : Written) → DescribesBoard (place + length (codes "(sum ")) first.now a → DescribesBoard (place + length (codes "(sum " ++ (spell_board a ++ codes " "))) second.now b → EntersSubject self.old.dictionary.room self.old.dictionary.rows place (sum a b) (answer_of result) self.new.dictionary.rows }
+        ensures entered { (a b : Written)
+            → DescribesBoard (place + length (codes "(sum ")) first.now a
+            → DescribesBoard (place + length (codes "(sum " ++ (spell_board a ++ codes " ")))
+            second.now b
+            → EntersSubject self.old.dictionary.room self.old.dictionary.rows place (sum a b)
+            (answer_of result) self.new.dictionary.rows }
         ensures room { self.new.dictionary.room ≡ self.old.dictionary.room }
     {
         let (left, right) = stand_both(first, second)?;
@@ -79,7 +90,9 @@ impl<S: Store> Calculator<S> {
 
     // A text, which begins at a place of the line: a fault in it has its own place.
     fn enter_text(&mut self, text: &Part<'_>) -> Result<u16, CalculatorFault>
-        ensures entered { text.now.place + length text.now.bytes.now < 2 ^ 64 → ReadAt self.old.dictionary.room self.old.dictionary.rows text.now.place text.now.bytes.now (answer_of result) self.new.dictionary.rows }
+        ensures entered { text.now.place + length text.now.bytes.now < 2 ^ 64
+            → ReadAt self.old.dictionary.room self.old.dictionary.rows text.now.place
+            text.now.bytes.now (answer_of result) self.new.dictionary.rows }
         ensures room { self.new.dictionary.room ≡ self.old.dictionary.room }
     {
         let start = text.place;
@@ -89,7 +102,10 @@ impl<S: Store> Calculator<S> {
 
     // What a line names, by what it is.
     pub(crate) fn enter_subject(&mut self, subject: &Subject<'_>) -> Result<u16, CalculatorFault>
-        ensures entered { (i : ℕ) (s : Named) → DescribesSubject i subject.now s → i + length (spell_subject s) < 2 ^ 64 → EntersSubject self.old.dictionary.room self.old.dictionary.rows i s (answer_of result) self.new.dictionary.rows }
+        ensures entered { (i : ℕ) (s : Named) → DescribesSubject i subject.now s
+            → i + length (spell_subject s) < 2 ^ 64
+            → EntersSubject self.old.dictionary.room self.old.dictionary.rows i s (answer_of result)
+            self.new.dictionary.rows }
         ensures room { self.new.dictionary.room ≡ self.old.dictionary.room }
     {
         match &subject.content {

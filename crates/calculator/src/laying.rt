@@ -46,7 +46,8 @@ pub fn stand(board: &Board<'_>) -> Result<Setup, CalculatorFault>
 
 // Sets up two boards, and then refuses a position that is not legal.
 pub fn stand_both(first: &Board<'_>, second: &Board<'_>) -> Result<(Setup, Setup), CalculatorFault>
-    ensures stood { (i j : ℕ) (a b : Written) → DescribesBoard i first.now a → DescribesBoard j second.now b → StoodBoth i a j b result }
+    ensures stood { (i j : ℕ) (a b : Written) → DescribesBoard i first.now a
+        → DescribesBoard j second.now b → StoodBoth i a j b result }
     ensures both { BothLegal result }
 {
     let left = lay(first)?;

@@ -39,14 +39,16 @@ fn put_move(out: &mut [u8; LONGEST_ANSWER], index: Option<usize>) -> usize
 }
 
 impl<S: Store> Calculator<S> {
-    // Writes a node's number, its outcome and its text. The text goes into what remains of the answer line behind the others,
-    // and is printed first, so that nothing is written where it does not fit.
+    // Writes a node's number, its outcome and its text. The text goes into what remains of the
+    // answer line behind the others, and is printed first,
+    // so that nothing is written where it does not fit.
     fn write_value(
         &self,
         node: u16,
         out: &mut [u8; LONGEST_ANSWER],
     ) -> Result<usize, CalculatorFault>
-        ensures { node < length self.now.dictionary.rows → WroteValue self.now.dictionary.rows node out.old out.new result }
+        ensures { node < length self.now.dictionary.rows
+            → WroteValue self.now.dictionary.rows node out.old out.new result }
     {
         let outcome = self.dictionary.outcome(node)?;
         let start = Buffer::new().format(node).len() + 3;
@@ -63,7 +65,10 @@ impl<S: Store> Calculator<S> {
         subject: &Subject<'_>,
         out: &mut [u8; LONGEST_ANSWER],
     ) -> Result<usize, CalculatorFault>
-        ensures replied { (s : Named) → DescribesSubject value_place subject.now s → value_place + length (spell_subject s) < 2 ^ 64 → Replied self.old.dictionary.room self.old.dictionary.rows (value s) out.old out.new self.new.dictionary.rows result }
+        ensures replied { (s : Named) → DescribesSubject value_place subject.now s
+            → value_place + length (spell_subject s) < 2 ^ 64
+            → Replied self.old.dictionary.room self.old.dictionary.rows (value s) out.old out.new
+            self.new.dictionary.rows result }
         ensures room { self.new.dictionary.room ≡ self.old.dictionary.room }
     {
         let node = self.enter_subject(subject)?;
@@ -77,7 +82,12 @@ impl<S: Store> Calculator<S> {
         second: &Subject<'_>,
         out: &mut [u8; LONGEST_ANSWER],
     ) -> Result<usize, CalculatorFault>
-        ensures replied { (s u : Named) → DescribesSubject first_place first.now s → DescribesSubject (second_place s) second.now u → first_place + length (spell_subject s) < 2 ^ 64 → second_place s + length (spell_subject u) < 2 ^ 64 → Replied self.old.dictionary.room self.old.dictionary.rows (comparison s u) out.old out.new self.new.dictionary.rows result }
+        ensures replied { (s u : Named) → DescribesSubject first_place first.now s
+            → DescribesSubject (second_place s) second.now u
+            → first_place + length (spell_subject s) < 2 ^ 64
+            → second_place s + length (spell_subject u) < 2 ^ 64
+            → Replied self.old.dictionary.room self.old.dictionary.rows (comparison s u) out.old
+            out.new self.new.dictionary.rows result }
         ensures room { self.new.dictionary.room ≡ self.old.dictionary.room }
     {
         let left = self.enter_subject(first)?;
@@ -93,7 +103,9 @@ impl<S: Store> Calculator<S> {
         board: &Board<'_>,
         out: &mut [u8; LONGEST_ANSWER],
     ) -> Result<usize, CalculatorFault>
-        ensures replied { (b : Written) → DescribesBoard (board_place side) board.now b → Replied self.old.dictionary.room self.old.dictionary.rows (first_move side b) out.old out.new self.new.dictionary.rows result }
+        ensures replied { (b : Written) → DescribesBoard (board_place side) board.now b
+            → Replied self.old.dictionary.room self.old.dictionary.rows (first_move side b) out.old
+            out.new self.new.dictionary.rows result }
         ensures room { self.new.dictionary.room ≡ self.old.dictionary.room }
     {
         let setup = stand(board)?;

@@ -1,4 +1,5 @@
-// Writing at the front of a buffer: each function answers how much it wrote, and leaves the rest as it was.
+// Writing at the front of a buffer: each function answers how much it wrote,
+// and leaves the rest as it was.
 ghost use Rattle.std.specs.Prelude.{◌≡◌, ◌≤◌, flat_map, length};
 ghost use Rattle.dictionary.specs.Printing.{over};
 ghost use Rattle.calculator.specs.Faults.{number_of, place_of};

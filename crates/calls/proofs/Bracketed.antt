@@ -6,18 +6,20 @@ use Rattle.std.proofs.lemmas.List.{length-append, length-map, map-append}
 use Rattle.games.specs.Form.{Form, Forms, form, ∅, ◌&◌, ◌⧺◌, 𝟎, lefts, rights}
 use Rattle.games.specs.Numbered.{Lists}
 use Rattle.games.specs.Text.{Mark, open_mark, bar, close_mark, comma, byte, text, bytes}
-use Rattle.games.proofs.Reader.{Bracket, in_left, in_right, State, wants, fresh, after, done, wrong, put, finish, next, run, result}
+use Rattle.games.specs.Reader.{Bracket, in_left, in_right, State, wants, fresh, after, done, wrong, put, finish, next, run, Alive, at, brackets, outside}
+use Rattle.games.proofs.Reader.{result}
 use Rattle.games.proofs.Reading.{run_++}
 use Rattle.calls.specs.Rows.{Rows, no_numbers, first}
 use Rattle.calls.specs.Answers.{Answer, told, refused, refused_at}
 use Rattle.calls.specs.Sealing.{Seals, SealsNumbers}
 use Rattle.calls.specs.Entering.{Entry, entry, parts, parts_of_all, place_after, SealsInTurn, Enters, accepted, ended}
 use Rattle.calls.specs.Texts.{times, closings}
+use Rattle.calls.specs.Brackets.{put_number, put_outside}
 use Rattle.calls.specs.Laws.{Equal, none_left}
 use Rattle.calls.proofs.Entering.{turn_snoc, seals_grows}
 use Rattle.calls.proofs.Turns.{turn_then}
 use Rattle.calls.proofs.Ones.{sealing_goes_by_numbers}
-use Rattle.calls.proofs.Texts.{Alive, at, closes, wrong_stays, alive_dec, text_done}
+use Rattle.calls.proofs.Texts.{closes, wrong_stays, alive_dec, text_done}
 use Rattle.calls.proofs.Evaluating.{turn_length, parts_⧺, equal_extends, equal_push, refused_same}
 
 -- the forms closed so far in an open bracket, in the brackets that are open, innermost first, and in all
@@ -35,21 +37,6 @@ closed_parts (fresh b bs) = open_parts (b ∷ bs)
 closed_parts (after b bs) = open_parts (b ∷ bs)
 closed_parts (done g) = parts g
 closed_parts wrong = []
-
--- the brackets that are open, innermost first; and those outside the innermost
-abbrev pub brackets : State → List Bracket
-brackets (wants bs) = bs
-brackets (fresh b bs) = b ∷ bs
-brackets (after b bs) = b ∷ bs
-brackets (done g) = []
-brackets wrong = []
-
-abbrev pub outside : State → List Bracket
-outside (wants bs) = bs
-outside (fresh b bs) = bs
-outside (after b bs) = bs
-outside (done g) = []
-outside wrong = []
 
 -- the form of the innermost bracket, as far as it was read
 abbrev pub whole : Bracket → Form
@@ -160,16 +147,6 @@ Frames E [] [] = Unit {0}
 Frames E [] (l ∷ ls) = ⊥
 Frames E (b ∷ bs) [] = ⊥
 Frames E (b ∷ bs) (l ∷ ls) = Frame E b l × Frames E bs ls
-
--- a number more, on the side that the bracket is in
-abbrev pub put_number : ℕ → Bracket → Lists → Lists
-put_number n (in_left ls) l = record { left = l.left ++ n ∷ []; right = l.right }
-put_number n (in_right ls rs) l = record { left = l.left; right = l.right ++ n ∷ [] }
-
-abbrev pub put_outside : ℕ → List Bracket → List Lists → List Lists
-put_outside n [] ls = ls
-put_outside n (b ∷ bs) [] = []
-put_outside n (b ∷ bs) (l ∷ ls) = put_number n b l ∷ ls
 
 frame_map : (E D : List ℕ → Forms → Type 0) → ((ns : List ℕ) (gs : Forms) → E ns gs → D ns gs) → (b : Bracket) (l : Lists) → Frame E b l → Frame D b l
 frame_map E D h (in_left ls) l f = (h _ _ f.0, f.1)

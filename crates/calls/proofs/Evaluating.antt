@@ -15,6 +15,7 @@ use Rattle.calls.specs.Answers.{Answer, told, refused, refused_at}
 use Rattle.calls.specs.Sealing.{Seals, too_wide, no_place, SealsNumbers}
 use Rattle.calls.specs.Entering.{Entry, entry, parts, parts_of_all, place_after, SealsInTurn, done, next, stop, Enters, accepted, ended}
 use Rattle.calls.specs.Laws.{Equal, none_left, equal_next}
+use Rattle.calls.specs.Valuing.{Valuing}
 use Rattle.calls.proofs.Sealing.{Extends, extends_known}
 use Rattle.calls.proofs.Entering.{turn_grows, turn_snoc}
 use Rattle.calls.proofs.Turns.{turn_then, turn_stop}
@@ -48,11 +49,6 @@ equal_extends x (equal_next {n = n} k e r) = let y = extends_known x (record { a
 pub equal_push : {a : Rows} {ns : List ℕ} {gs : Forms} {n : ℕ} {g : Form} → Equal a ns gs → n < length a → node a n ≈ g → Equal a (ns ++ n ∷ []) (gs ⧺ (g & ∅))
 equal_push none_left k e = equal_next k e none_left
 equal_push (equal_next i d r) k e = equal_next i d (equal_push r k e)
-
--- successors ms valued one after the other, and the numbers ns answered
-pub record Valuing (R : Rules) (c : ℕ) (a : Rows) (ms ns : List ℕ) (b : Rows) (es : List Entry) : Type 0 where
-  pub turn : SealsInTurn c a (parts_of_all (each (game R) ms)) None b es
-  pub equal : Equal b ns (each (game R) ms)
 
 module _ (R : Rules) (lawful : Lawful R) (c : ℕ) where
   pub valuing_none : (a : Rows) → Valuing R c a [] [] a []

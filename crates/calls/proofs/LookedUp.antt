@@ -5,7 +5,7 @@ use Rattle.std.specs.List.{AllByRecursion}
 use Rattle.games.specs.Form.{Form, Forms, form, ∅, ◌&◌, ◌⧺◌, lefts, rights}
 use Rattle.games.specs.Numbered.{Lists, each, form_by}
 use Rattle.games.specs.Text.{Mark, open_mark, bar, close_mark, comma, text}
-use Rattle.games.proofs.Reader.{State, wants, done, next}
+use Rattle.games.specs.Reader.{State, wants, done, next, Alive, at, brackets, outside}
 use Rattle.calls.specs.Rows.{Rows, no_numbers, node, Below}
 use Rattle.calls.specs.Answers.{told, refused_at}
 use Rattle.calls.specs.Texts.{Written, closings}
@@ -13,8 +13,8 @@ use Rattle.calls.specs.Reading.{Stands, Listed, LooksUp}
 use Rattle.calls.specs.Sound.{Sound}
 use Rattle.calls.proofs.Evaluating.{each_++}
 use Rattle.calls.proofs.Written.{rows_as_written}
-use Rattle.calls.proofs.Texts.{Alive, at}
-use Rattle.calls.proofs.Bracketed.{closed_parts, brackets, outside, closing, close_parts, open_same, bar_same, comma_same, Frames, put_outside, frames_open, frames_bar, frames_comma, frames_close, closing_lists, last_form, split_at}
+use Rattle.calls.specs.Brackets.{put_outside}
+use Rattle.calls.proofs.Bracketed.{closed_parts, closing, close_parts, open_same, bar_same, comma_same, Frames, frames_open, frames_bar, frames_comma, frames_close, closing_lists, last_form, split_at}
 
 -- the numbers are nodes', and their forms are the given ones
 pub record Names (rows : Rows) (ns : List ℕ) (gs : Forms) : Type 0 where

@@ -19,7 +19,8 @@ use Rattle.calls.specs.Answers.{told, refused_at}
 use Rattle.calls.specs.Entering.{Entry, parts_of_all, place_after, SealsInTurn, Enters}
 use Rattle.calls.specs.Positions.{order, Winning, FirstMoves}
 use Rattle.calls.specs.Laws.{Equal, equal_next}
-use Rattle.calls.proofs.Evaluating.{Valuing, valuing_stops}
+use Rattle.calls.specs.Valuing.{Valuing}
+use Rattle.calls.proofs.Evaluating.{valuing_stops}
 
 -- two games that are equal in value are won alike
 both : (a b : Bool) → (T a → T b) → (T b → T a) → a ≡ b

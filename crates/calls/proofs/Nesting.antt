@@ -9,11 +9,10 @@ use Rattle.games.specs.Form.{Form as Game, form, ∅}
 use Rattle.games.specs.Text.{close_mark}
 use Rattle.games.specs.declared.side.Side.{Side}
 use Rattle.games.specs.declared.side.Side.TheVariants.{Left, Right}
-use Rattle.games.proofs.Reader.{Bracket, in_left, in_right, State, wants, fresh, after, done, wrong, put, finish, next, result}
+use Rattle.games.specs.Reader.{Bracket, in_left, in_right, State, wants, fresh, after, done, wrong, put, finish, next, brackets, Alive}
+use Rattle.games.proofs.Reader.{result}
 use Rattle.calls.specs.Nests.{Stands, StandsAt, behind, outer_of, spot_of}
 use Rattle.calls.specs.TextSpots.{is_after, open_at, side_at, side_of}
-use Rattle.calls.proofs.Bracketed.{brackets}
-use Rattle.calls.proofs.Texts.{Alive}
 use Rattle.calls.specs.declared.nest.Nest.{Nest}
 use Rattle.calls.specs.declared.nest.TextSpot.{TextSpot}
 use Rattle.calls.specs.declared.nest.TextSpot.TheVariants.{Form, Start, After}

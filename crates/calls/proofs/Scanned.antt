@@ -5,11 +5,12 @@ use mathlib.Core.Option.{none}
 use Rattle.std.proofs.lemmas.List.{take-append-drop, take_all, take_more, drop_more, length-take}
 use Rattle.games.specs.Form.{Form}
 use Rattle.games.specs.Text.{Mark, open_mark, bar, close_mark, comma, byte}
-use Rattle.games.proofs.Reader.{Bracket, in_left, in_right, State, wants, fresh, after, done, wrong, finish, next, run, result}
+use Rattle.games.specs.Reader.{Bracket, in_left, in_right, State, wants, fresh, after, done, wrong, finish, next, run, Alive, at, brackets}
+use Rattle.games.proofs.Reader.{result}
 use Rattle.games.proofs.Reading.{run_++}
 use Rattle.calls.specs.Texts.{times, nesting, Shallow, Written, GoesOn, Fault}
-use Rattle.calls.proofs.Texts.{Alive, at, goes_on, read_done, shallow_push, ends_early, no_mark, wrong_mark, deep, more_bytes}
-use Rattle.calls.proofs.Bracketed.{brackets, alive_before}
+use Rattle.calls.proofs.Texts.{goes_on, read_done, shallow_push, ends_early, no_mark, wrong_mark, deep, more_bytes}
+use Rattle.calls.proofs.Bracketed.{alive_before}
 
 -- as many brackets are open as the marks have opened and not closed
 abbrev opens : List Mark → ℕ

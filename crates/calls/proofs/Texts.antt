@@ -6,7 +6,8 @@ use native.Mathlib.Decide.{dec_lt, dec_le, ℕ_discrete}
 use Rattle.std.proofs.lemmas.List.{take-append-drop, take-take, take_at, take-append-le, take_all, length-append, map-append}
 use Rattle.games.specs.Form.{Form, Forms, form, ∅, ◌&◌}
 use Rattle.games.specs.Text.{Mark, open_mark, bar, close_mark, comma, byte, text, texts, more, bytes}
-use Rattle.games.proofs.Reader.{Bracket, in_left, in_right, State, wants, fresh, after, done, wrong, put, finish, run, result, read}
+use Rattle.games.specs.Reader.{Bracket, in_left, in_right, State, wants, fresh, after, done, wrong, put, finish, run, Alive, at}
+use Rattle.games.proofs.Reader.{result, read}
 use Rattle.games.proofs.Reading.{run_++, read_text, text_read}
 use Rattle.games.proofs.Text.{map_byte_injective}
 use Rattle.calls.specs.Entering.{parts, parts_of_all}
@@ -66,13 +67,6 @@ completes_finish : (bs : List Bracket) (g : Form) → Completes (finish g bs)
 completes_finish [] g = ([], g, refl)
 completes_finish (b ∷ bs) g = (close_it (put g b) bs (completes_finish bs)).0
 
-abbrev pub Alive : State → Type 0
-Alive (wants bs) = Unit {0}
-Alive (fresh b bs) = Unit {0}
-Alive (after b bs) = Unit {0}
-Alive (done g) = Unit {0}
-Alive wrong = ⊥
-
 pub alive_dec : (q : State) → Alive q ⊎ (q ≡ wrong)
 alive_dec (wants bs) = inl tt
 alive_dec (fresh b bs) = inl tt
@@ -86,9 +80,6 @@ completes (fresh b bs) a = (close_it b bs (completes_finish bs)).1
 completes (after b bs) a = (close_it b bs (completes_finish bs)).0
 completes (done g) a = ([], g, refl)
 completes wrong a = absurd a
-
-abbrev pub at : List Mark → State
-at ms = run (wants []) ms
 
 pub read_done : (ms : List Mark) (g : Form) → at ms ≡ done g → text g ≡ ms
 unfolding read

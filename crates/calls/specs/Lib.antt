@@ -5,6 +5,7 @@ pub mod Entering
 pub mod Positions
 pub mod Texts
 pub mod TextSpots
+pub mod Brackets
 pub mod Nests
 pub mod Faults
 pub mod Reading
@@ -14,6 +15,7 @@ pub mod Sound
 pub mod Laws
 pub mod Outcomes
 pub mod Memory
+pub mod Valuing
 pub mod Runs
 pub mod RunLaws
 pub mod WorkedRun

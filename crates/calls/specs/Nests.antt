@@ -6,7 +6,7 @@ use Rattle.std.specs.ControlFlow.{MatchControlFlow}
 use Rattle.games.specs.Form.{Form as Game}
 use Rattle.games.specs.Text.{Mark, open_mark, close_mark, byte}
 use Rattle.games.specs.declared.side.Side.TheVariants.{Left}
-use Rattle.games.proofs.Reader.{Bracket, State, wants, fresh, after, done, wrong, next}
+use Rattle.games.specs.Reader.{Bracket, State, wants, fresh, after, done, wrong, next}
 use Rattle.calls.specs.TextSpots.{side_of}
 use Rattle.calls.specs.declared.fault.TextFault.{TextFault}
 use Rattle.calls.specs.declared.fault.TextFault.TheVariants.{WrongByte, EarlyEnd, TooDeep}
@@ -53,3 +53,15 @@ Stepped q nest b place answer =
     MatchResult answer
     (λ flow. MatchControlFlow flow (λ _. (m : Mark) × (byte m ≡ b) × Stands nest (next q m)) (λ _. (byte close_mark ≡ b) × (g : Game) × (next q close_mark ≡ done g)))
     (Refused q b place)
+
+-- the reader stands where it stood
+pub record Unmoved (before later : Nest) : Type 0 where
+  pub spot : later.spot ≡ before.spot
+  pub outside : later.outside.items ≡ before.outside.items
+
+-- behind the last bracket, and at a byte that is refused, it does
+abbrev pub StaysUnlessOn : Nest → Nest → Result (ControlFlow (Unit {0}) (Unit {0})) TextFault → Type 0
+StaysUnlessOn before later answer =
+    MatchResult answer
+    (λ flow. MatchControlFlow flow (λ _. Unit {0}) (λ _. Unmoved before later))
+    (λ fault. Unmoved before later)

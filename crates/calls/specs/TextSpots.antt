@@ -1,7 +1,7 @@
 -- The places in the text of a form, as the code has them.
 -- Assumes nothing.
 use Rattle.std.specs.Prelude.{ℕ, Bool, true, false, Some, None, Option}
-use Rattle.games.proofs.Reader.{Bracket, in_left, in_right}
+use Rattle.games.specs.Reader.{Bracket, in_left, in_right}
 use Rattle.games.specs.declared.side.Side.{Side}
 use Rattle.games.specs.declared.side.Side.TheVariants.{Left, Right}
 use Rattle.calls.specs.declared.nest.TextSpot.{TextSpot}

@@ -1,4 +1,5 @@
-// The theorems on the calls, each asked for by the contract of a function: these functions do nothing else.
+// The theorems on the calls, each asked for by the contract of a function:
+// these functions do nothing else.
 ghost use Rattle.calls.specs.Laws.{LookUpFindsTheNodes, NodeReads, PlacesAreTheParts, RowsAsWritten, RowsRise, RowsStaySound};
 ghost use Rattle.calls.specs.Laws.{SealingGoesByMembers, SealingGoesByNumbers, SealingGoesByValue};
 ghost use Rattle.calls.specs.Memory.{MemoryHolds, ValuedAgain};

@@ -1,5 +1,6 @@
-// What the calls on a dictionary mean: definitions, and the theorems on them. The only other code here is what the
-// crates above share: the fault of a text or of a line, and where a reader stands in the text of a form.
+// What the calls on a dictionary mean: definitions, and the theorems on them.
+// The only other code here is what the crates above share:
+// the fault of a text or of a line, and where a reader stands in the text of a form.
 #![tactic(auto)]
 
 pub mod fault;

@@ -1,4 +1,5 @@
-// Where a reader stands in the text of a form: at a place in a list of its options, and in the brackets outside.
+// Where a reader stands in the text of a form: at a place in a list of its options,
+// and in the brackets outside.
 ghost use Rattle.std.specs.Prelude.{◌≡◌, ◌+◌, ◌≤◌, true, length};
 ghost use Rattle.std.specs.List.{list_all};
 ghost use Rattle.calls.specs.TextSpots.{is_after, open_at};

@@ -1,4 +1,5 @@
-// The theorems on all lists of calls, each asked for by the contract of a function: these functions do nothing else.
+// The theorems on all lists of calls, each asked for by the contract of a function:
+// these functions do nothing else.
 ghost use Rattle.calls.specs.RunLaws.{EntriesAreCanonical, NumbersTellGames, PrintedReadsBack, RowsAreSound, TextsAreCanonical, TextsTellGames, ToldNumbersAreEntries, ValuedStays};
 ghost use Rattle.calls.specs.WorkedRun.{WorkedRun};
 

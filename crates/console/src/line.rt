@@ -5,7 +5,8 @@ ghost use Rattle.console.specs.Serving.{kept};
 use calculator::bounds::LONGEST_LINE;
 use std::alloc::{AllocError, Global};
 
-// What is kept of a line: of a line that is too long one byte more than a line may have, which shows it.
+// What is kept of a line: of a line that is too long one byte more than a line may have,
+// which shows it.
 #[derive(Drop)]
 pub(crate) struct Line {
     bytes: Vec<u8>,

@@ -32,7 +32,9 @@ fn line_break(bytes: &[u8]) -> Option<usize>
 
 // Takes the bytes at hand that belong to the line, and its line break.
 fn take_part<B: BufRead>(input: &mut B, line: &mut Line) -> io::Result<Stop>
-    ensures { IfOk result (λ stop. IfSome (B.remaining input.old) (λ bytes. (rest : List ℕ) × (B.remaining input.new ≡ Some rest) × Takes line.old.bytes.items bytes line.new.bytes.items rest stop)) }
+    ensures { IfOk result (λ stop. IfSome (B.remaining input.old) (λ bytes. (rest : List ℕ)
+        × (B.remaining input.new ≡ Some rest)
+        × Takes line.old.bytes.items bytes line.new.bytes.items rest stop)) }
 {
     let at_hand = match input.fill_buf() {
         Ok(at_hand) => at_hand,
@@ -57,9 +59,11 @@ fn take_part<B: BufRead>(input: &mut B, line: &mut Line) -> io::Result<Stop>
     }
 }
 
-// The next line without its line break, or as much of it as shows that it is too long; false where the input has ended.
+// The next line without its line break, or as much of it as shows that it is too long;
+// false where the input has ended.
 fn next_line<B: BufRead>(input: &mut B, line: &mut Line) -> io::Result<bool>
-    ensures { IfOk result (λ more. IfSome (B.remaining input.old) (λ bytes. (rest : List ℕ) × (B.remaining input.new ≡ Some rest) × TakesLine bytes line.new.bytes.items rest more)) }
+    ensures { IfOk result (λ more. IfSome (B.remaining input.old) (λ bytes. (rest : List ℕ)
+        × (B.remaining input.new ≡ Some rest) × TakesLine bytes line.new.bytes.items rest more)) }
 {
     line.clear();
     for _ in 0..u64::MAX {
@@ -79,7 +83,9 @@ fn answer_line<S: Store, W: Write>(
     answer: &mut [u8; LONGEST_ANSWER],
     output: &mut W,
 ) -> io::Result<()>
-    ensures answered { (t : List ℕ) × Answers calculator.old.dictionary.room calculator.old.dictionary.rows line.now t calculator.new.dictionary.rows × OnOk result (Appends (W.contents output.old) (W.contents output.new) (t ++ (10 ∷ []))) }
+    ensures answered { (t : List ℕ) × Answers calculator.old.dictionary.room
+        calculator.old.dictionary.rows line.now t calculator.new.dictionary.rows
+        × OnOk result (Appends (W.contents output.old) (W.contents output.new) (t ++ (10 ∷ []))) }
     ensures room { calculator.new.dictionary.room ≡ calculator.old.dictionary.room }
 {
     let length = calculator.answer(line, answer).unwrap();
@@ -87,17 +93,24 @@ fn answer_line<S: Store, W: Write>(
     output.write_all(b"\n")
 }
 
-// Answers each line of the input with a line, until the input ends. What is written goes out before more input is waited for.
-// After an error the calculator has answered the first lines, and how much of the last answers was written is not known.
+// Answers each line of the input with a line, until the input ends.
+// What is written goes out before more input is waited for.
+// After an error the calculator has answered the first lines,
+// and how much of the last answers was written is not known.
 pub fn serve<S: Store, R: Read + Drop, W: Write + Drop>(
     heap: Global,
     calculator: &mut Calculator<S>,
     input: &mut BufReader<R>,
     output: &mut BufWriter<W>,
 ) -> io::Result<()>
-    ensures served { OnOk result (Serves calculator.old.dictionary.room calculator.old.dictionary.rows (reader_remaining R.remaining input.old) (writer_contents W.contents output.old) (writer_contents W.contents output.new) calculator.new.dictionary.rows) }
-    ensures begun { Begins calculator.old.dictionary.room calculator.old.dictionary.rows (reader_remaining R.remaining input.old) calculator.new.dictionary.rows }
-    ensures ended { OnOk result (IfSome (reader_remaining R.remaining input.old) (λ _. reader_remaining R.remaining input.new ≡ Some [])) }
+    ensures served { OnOk result (Serves calculator.old.dictionary.room
+        calculator.old.dictionary.rows (reader_remaining R.remaining input.old)
+        (writer_contents W.contents output.old) (writer_contents W.contents output.new)
+        calculator.new.dictionary.rows) }
+    ensures begun { Begins calculator.old.dictionary.room calculator.old.dictionary.rows
+        (reader_remaining R.remaining input.old) calculator.new.dictionary.rows }
+    ensures ended { OnOk result (IfSome (reader_remaining R.remaining input.old)
+        (λ _. reader_remaining R.remaining input.new ≡ Some [])) }
     ensures flushed { OnOk result (writer_buffer output.new ≡ []) }
     ensures room { calculator.new.dictionary.room ≡ calculator.old.dictionary.room }
 {

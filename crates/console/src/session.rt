@@ -10,14 +10,17 @@ use std::io;
 use std::io::{BufReader, BufWriter, Read, Write};
 use stores::store::Store;
 
-// Answers each line of the input with a line, over a new dictionary in the store, and gives back what was written to.
+// Answers each line of the input with a line, over a new dictionary in the store,
+// and gives back what was written to.
 pub fn answer_all<S: Store + Drop, R: Read + Drop, W: Write + Drop>(
     heap: Global,
     store: S,
     input: R,
     output: W,
 ) -> io::Result<W>
-    ensures { IfOk result (λ written. (later : Rows) × Serves (S.Store.room store) [] (R.remaining input) (W.contents output) (W.contents written) later) }
+    ensures { IfOk result (λ written. (later : Rows)
+        × Serves (S.Store.room store) [] (R.remaining input) (W.contents output)
+        (W.contents written) later) }
 {
     let mut calculator = Calculator::begin(heap, store)?;
     let mut reader = BufReader::new(heap, input)?;

@@ -12,7 +12,8 @@ use hackenbush::picture::Picture;
 use nodesets::nodeset::NodeSet;
 use nodesets::pair::Pair;
 
-// The forms {|}, {0|}, {|0}, {0|0}, {0,1|}, {*|*}, {0|1} and {0|*}, by the nodes of their options, and a form with an option that is no node.
+// The forms {|}, {0|}, {|0}, {0|0}, {0,1|}, {*|*}, {0|1} and {0|*}, by the nodes of their options,
+// and a form with an option that is no node.
 pub const FORMS: [(&str, &[u16], &[u16]); 9] = [
     ("{|}", &[], &[]),
     ("{0|}", &[0], &[]),
@@ -25,7 +26,8 @@ pub const FORMS: [(&str, &[u16], &[u16]); 9] = [
     ("{9|}", &[9], &[]),
 ];
 
-// How many rows the stores have room for in which the forms are sealed: one fewer than would be wanted.
+// How many rows the stores have room for in which the forms are sealed:
+// one fewer than would be wanted.
 pub const ROWS: usize = 6;
 
 // Pairs of their nodes, of which none is 6.
@@ -44,7 +46,8 @@ fn set(nodes: &[u16]) -> NodeSet
 
 // The sets of two lists of nodes.
 pub fn pair(left: &[u16], right: &[u16]) -> Pair
-    ensures { (s : Side) (k : ℕ) → by result s k ≡ named (list_of s (record { left = left.now; right = right.now })) k }
+    ensures { (s : Side) (k : ℕ) → by result s k
+        ≡ named (list_of s (record { left = left.now; right = right.now })) k }
 {
     Pair {
         left: set(left),

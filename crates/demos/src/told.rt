@@ -54,7 +54,8 @@ pub fn compare<S: Store>(
     Ok(())
 }
 
-// Prints a node into the first bytes of a buffer, as many as there is room for, and shows the whole buffer.
+// Prints a node into the first bytes of a buffer, as many as there is room for,
+// and shows the whole buffer.
 pub fn print_into<S: Store>(
     rt: &HostRuntime,
     dictionary: &Dictionary<S>,
@@ -77,7 +78,10 @@ pub fn text<'a, S: Store>(
     node: u16,
     buffer: &'a mut [u8],
 ) -> Result<&'a [u8], PrintFault>
-    ensures { MatchResult result (λ text. Prints dictionary.now.rows node (length buffer.old) (told (length text.now)) text.now) (λ fault. Prints dictionary.now.rows node (length buffer.old) (refused (print_fault_number fault)) []) }
+    ensures { MatchResult result (λ text. Prints dictionary.now.rows node (length buffer.old)
+        (told (length text.now)) text.now)
+        (λ fault. Prints dictionary.now.rows node (length buffer.old)
+        (refused (print_fault_number fault)) []) }
 {
     let end = dictionary.print(node, buffer)?;
     Ok(&buffer[..end])

@@ -14,8 +14,8 @@ pub struct Dictionary<S: Store> {
     pub(crate) recent: Recent,
 }
 
-// To a caller a dictionary is its rows and the room for them; the tables are those that the rows make,
-// and what is remembered of seals is right.
+// To a caller a dictionary is its rows and the room for them;
+// the tables are those that the rows make, and what is remembered of seals is right.
 impl<S: Store> Model for Dictionary<S> {
     ghost use Rattle.dictionary.specs.Holding.{Holding};
     ghost use Rattle.dictionary.specs.Kept.{Kept};
@@ -25,11 +25,13 @@ impl<S: Store> Model for Dictionary<S> {
 
     ghost view = { λ d. record { rows = S.Store.rows d.store; room = S.Store.room d.store } };
 
-    ghost invariant = { λ d. Kept (S.Store.rows d.store) d.tables × Sure (S.Store.rows d.store) d.recent };
+    ghost invariant = { λ d. Kept (S.Store.rows d.store) d.tables
+        × Sure (S.Store.rows d.store) d.recent };
 }
 
 impl<S: Store + Drop> Dictionary<S> {
-    // A dictionary without nodes over the store, whose rows go. There may be no memory for its tables.
+    // A dictionary without nodes over the store, whose rows go.
+    // There may be no memory for its tables.
     pub fn begin(heap: Global, store: S) -> Result<Dictionary<S>, AllocError>
         ensures { IfOk result (λ d. (d.rows ≡ []) × (d.room ≡ S.Store.room store)) }
     {

@@ -59,7 +59,8 @@ impl<S: Store> Frozen<S> {
 
     // The node whose row has these two lists, as written. It is the store that knows its rows.
     pub fn find(&self, left: &[u16], right: &[u16]) -> Option<u16>
-        ensures found { result ≡ lowest self.now.rows (record { left = left.entry.now; right = right.now }) }
+        ensures found { result ≡ lowest self.now.rows
+            (record { left = left.entry.now; right = right.now }) }
         ensures sound { Sound self.now.rows }
         ensures lawful { Lawful self.now.rows self.now.room }
     {

@@ -21,7 +21,8 @@ const LONGEST: usize = 65_535;
 // What is left of a budget of bytes behind the text of a node, if it goes so far.
 #[cycle(spending)]
 fn spend<S: Store>(store: &S, node: u16, budget: usize) -> Option<usize>
-    ensures { SomeIff result (text_length (S.Store.rows store.now) node ≤ budget) (budget - text_length (S.Store.rows store.now) node) }
+    ensures { SomeIff result (text_length (S.Store.rows store.now) node ≤ budget)
+        (budget - text_length (S.Store.rows store.now) node) }
 {
     let marks = budget.checked_sub(3)?;
     let left = spend_options(store, Side::Left, node, marks)?;
@@ -31,7 +32,8 @@ fn spend<S: Store>(store: &S, node: u16, budget: usize) -> Option<usize>
 // The same behind the options of a side, which commas part.
 #[cycle(spending)]
 fn spend_options<S: Store>(store: &S, side: Side, node: u16, budget: usize) -> Option<usize>
-    ensures { SomeIff result (length (options_text (S.Store.rows store.now) side node) ≤ budget) (budget - length (options_text (S.Store.rows store.now) side node)) }
+    ensures { SomeIff result (length (options_text (S.Store.rows store.now) side node) ≤ budget)
+        (budget - length (options_text (S.Store.rows store.now) side node)) }
 {
     let mut left = budget;
     for (index, option) in options_of(store, side, node).enumerate() {
@@ -45,7 +47,8 @@ fn spend_options<S: Store>(store: &S, side: Side, node: u16, budget: usize) -> O
 // Writes the text of a node.
 #[cycle(writing)]
 fn write<S: Store>(store: &S, node: u16, writer: &mut Writer)
-    requires { writer.old.place + text_length (S.Store.rows store.now) node ≤ length writer.old.out.now }
+    requires { writer.old.place + text_length (S.Store.rows store.now) node
+        ≤ length writer.old.out.now }
     ensures { Wrote writer.old writer.new (bytes (form_of (S.Store.rows store.now) node)) }
 {
     writer.put(b'{');
@@ -58,7 +61,8 @@ fn write<S: Store>(store: &S, node: u16, writer: &mut Writer)
 // The same for the options of a side, which commas part.
 #[cycle(writing)]
 fn write_options<S: Store>(store: &S, side: Side, node: u16, writer: &mut Writer)
-    requires { writer.old.place + length (options_text (S.Store.rows store.now) side node) ≤ length writer.old.out.now }
+    requires { writer.old.place + length (options_text (S.Store.rows store.now) side node)
+        ≤ length writer.old.out.now }
     ensures { Wrote writer.old writer.new (options_text (S.Store.rows store.now) side node) }
 {
     for (index, option) in options_of(store, side, node).enumerate() {
@@ -70,7 +74,8 @@ fn write_options<S: Store>(store: &S, side: Side, node: u16, writer: &mut Writer
 }
 
 impl<S: Store> Dictionary<S> {
-    // Writes the text of a node at the front of a buffer, which stays as it was behind it, and answers how long the text is.
+    // Writes the text of a node at the front of a buffer, which stays as it was behind it,
+    // and answers how long the text is.
     pub fn print(&self, node: u16, out: &mut [u8]) -> Result<usize, PrintFault>
         ensures printed { Printed self.now.rows node out.old (print_answer result) out.new }
         ensures step { PrintSteps self.now.rows node (print_answer result) out.new }

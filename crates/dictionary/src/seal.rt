@@ -27,10 +27,12 @@ fn row(tables: &Tables, form: &Pair) -> Option<Row>
 }
 
 impl<S: Store> Dictionary<S> {
-    // The node that equals the form of the two sets; where there is none, the row of its canonical form is added.
+    // The node that equals the form of the two sets; where there is none,
+    // the row of its canonical form is added.
     // A pair that was sealed lately is not looked at again.
     pub fn seal(&mut self, moves: &Pair) -> Result<u16, DictionaryFault>
-        ensures seals { (l : Lists) → ListsOf (by moves.now) l → SealsNumbers self.old.room self.old.rows l (answer_of result) self.new.rows }
+        ensures seals { (l : Lists) → ListsOf (by moves.now) l
+            → SealsNumbers self.old.room self.old.rows l (answer_of result) self.new.rows }
         ensures room { self.new.room ≡ self.old.room }
         ensures small { IfOk result (λ node. node < 384) }
         ensures sound { Sound self.old.rows }
@@ -45,7 +47,8 @@ impl<S: Store> Dictionary<S> {
 
     // The same, whatever is remembered.
     fn seal_anew(&mut self, moves: &Pair) -> Result<u16, DictionaryFault>
-        ensures seals { (l : Lists) → ListsOf (by moves.now) l → SealsNumbers self.old.room self.old.rows l (answer_of result) self.new.rows }
+        ensures seals { (l : Lists) → ListsOf (by moves.now) l
+            → SealsNumbers self.old.room self.old.rows l (answer_of result) self.new.rows }
         ensures room { self.new.room ≡ self.old.room }
         ensures small { IfOk result (λ node. node < 384) }
         ensures sound { Sound self.old.rows }

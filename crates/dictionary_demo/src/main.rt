@@ -1,4 +1,5 @@
-// A dictionary over each store: a few forms sealed from the nodes before them, their outcomes, and how they compare.
+// A dictionary over each store: a few forms sealed from the nodes before them, their outcomes,
+// and how they compare.
 #![tactic(auto)]
 
 use demos::desk::Detail;

@@ -42,7 +42,8 @@ impl Draft {
         Slip::new()
     }
 
-    // Adds a number to a side, and refuses one that no node can have. The slip shows that the draft is open.
+    // Adds a number to a side, and refuses one that no node can have.
+    // The slip shows that the draft is open.
     pub fn put(&mut self, _slip: &Slip, side: Side, number: u16) -> Result<(), DictionaryFault>
         ensures puts { PutsInto self.old side number (answer_of result) self.new }
         ensures step { PutSteps self.old side number (answer_of result) self.new }

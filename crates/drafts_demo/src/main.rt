@@ -1,5 +1,5 @@
-// Drafts over each store: forms put together number by number, sealed or abandoned. What was sealed is printed and read back,
-// and a position whose game was drafted is valued.
+// Drafts over each store: forms put together number by number, sealed or abandoned.
+// What was sealed is printed and read back, and a position whose game was drafted is valued.
 #![tactic(auto)]
 
 use demos::shown::{Demo, Shown, begin_told, over_both};
@@ -18,7 +18,8 @@ use valuing::value::value_with;
 // How many rows the stores have room for: one fewer than would be wanted.
 const ROWS: usize = 4;
 
-// What is put on the Left and on the Right, by the numbers of nodes: 0 is 0, 1 is 1, 2 is 2 and 3 is *.
+// What is put on the Left and on the Right, by the numbers of nodes:
+// 0 is 0, 1 is 1, 2 is 2 and 3 is *.
 const FORMS: [(&str, &[u16], &[u16]); 10] = [
     ("{|}", &[], &[]),
     ("{0|}", &[0], &[]),

@@ -1,4 +1,5 @@
-// Which first moves win on a strip of Toads-and-Frogs, found by play alone: a question on each line of the input, its answer on a line of the output.
+// Which first moves win on a strip of Toads-and-Frogs, found by play alone:
+// a question on each line of the input, its answer on a line of the output.
 #![tactic(auto)]
 
 use games::side::Side;

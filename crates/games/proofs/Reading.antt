@@ -4,7 +4,8 @@ use Rattle.std.proofs.Common.{◌≡◌, List, [], ◌∷◌, ◌++◌, sym, ref
 use mathlib.Core.Option.{some}
 use Rattle.games.specs.Form.{Form, Forms, form, ∅, ◌&◌, ◌⧺◌}
 use Rattle.games.specs.Text.{Mark, open_mark, bar, close_mark, comma, text, texts, more}
-use Rattle.games.proofs.Reader.{Bracket, in_left, in_right, State, wants, fresh, after, done, wrong, put, finish, end_left, end_right, next, run, result, read}
+use Rattle.games.specs.Reader.{Bracket, in_left, in_right, State, wants, fresh, after, done, wrong, put, finish, end_left, end_right, next, run}
+use Rattle.games.proofs.Reader.{result, read}
 
 pub run_++ : (q : State) (a b : List Mark) → run q (a ++ b) ≡ run (run q a) b
 run_++ q [] b = refl

@@ -9,4 +9,5 @@ pub mod Listing
 pub mod Canon
 pub mod Tests
 pub mod Text
+pub mod Reader
 pub mod Laws

@@ -1,4 +1,5 @@
-// The theorems on games, each asked for by the contract of a function: these functions do nothing else.
+// The theorems on games, each asked for by the contract of a function:
+// these functions do nothing else.
 ghost use Rattle.games.specs.Laws.{CanonicalDecided, CanonicalFormIsOne, DominatedGoes, EqualOptions, ListingIsStrict, ReversibleGoes, TextTells};
 
 pub fn value_is_kept()

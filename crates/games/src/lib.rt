@@ -1,4 +1,5 @@
-// Short partizan games under normal play: the definitions that every other crate speaks of (specs/), and their theorems.
+// Short partizan games under normal play: the definitions that every other crate speaks of
+// (specs/), and their theorems.
 #![tactic(auto)]
 
 pub mod bounds;

@@ -30,7 +30,8 @@ impl Comparison {
     // How two games compare, told by who can win when starting their difference.
     pub fn by_play(left_can_win: bool, right_can_win: bool) -> Comparison
         ensures value { result ≡ comparison (not right_can_win) (not left_can_win) }
-        ensures compares { (g h : Form) → wins Left g h ≡ left_can_win → wins Right g h ≡ right_can_win → result ≡ compare g h }
+        ensures compares { (g h : Form) → wins Left g h ≡ left_can_win
+            → wins Right g h ≡ right_can_win → result ≡ compare g h }
         ensures theory { PlayTellsTheOrder }
     {
         match (left_can_win, right_can_win) {
@@ -72,7 +73,8 @@ impl Outcome {
     // The outcome of a game, told by who can win when starting it.
     pub fn by_play(left_can_win: bool, right_can_win: bool) -> Outcome
         ensures value { result ≡ against_zero (comparison (not right_can_win) (not left_can_win)) }
-        ensures classes { (g : Form) → wins Left g 𝟎 ≡ left_can_win → wins Right g 𝟎 ≡ right_can_win → result ≡ outcome g }
+        ensures classes { (g : Form) → wins Left g 𝟎 ≡ left_can_win → wins Right g 𝟎 ≡ right_can_win
+            → result ≡ outcome g }
     {
         Outcome::from(Comparison::by_play(left_can_win, right_can_win))
     }

@@ -4,7 +4,7 @@ use lib.Bits.{bit_or, bit_xor}
 use Rattle.std.specs.Bool.{then_some}
 use Rattle.std.proofs.lemmas.Nat.{or_lt, xor_lt, pow_below}
 use Rattle.std.proofs.lemmas.Option.{slice_get-get_or}
-use Rattle.std.proofs.lemmas.Bool.{cases_Bool, cases_eq, cases_lt, both_ways, and_parts, and_from, or_cases, or_parts, eqb-true, eq-eqb, ne_eqb, lt-ltb, le-ltb, not_from_false}
+use Rattle.std.proofs.lemmas.Bool.{cases_Bool, cases_eq, cases_lt, both_ways, and_parts, and_from, or_cases, or_parts, or_right, eqb-true, eq-eqb, ne_eqb, lt-ltb, le-ltb, not_from_false}
 use Rattle.bits.specs.Bits.{bit}
 use Rattle.bits.proofs.Words.{bit_or_lem, bit_none, bit_one, bit_past, bits_same, some_bit, one_shl_64}
 use Rattle.hackenbush.specs.declared.edge.Edge.{Edge}
@@ -104,6 +104,13 @@ module _ (p : Picture) (n k : ℕ) (set : bit n k ≡ true) (fits : n < 2 ^ 64) 
 
   pub picture_others : bit_xor n (flag_of k) < 2 ^ p.count
   picture_others = rw (← count_is p) (others_below (edges_of p) n k (flag_of k) one set small)
+
+  -- the edge is one of the picture, and is left for a look
+  pub picture_place : k < p.count
+  picture_place = rw (← count_is p) (place_below (edges_of p) n k (flag_of k) one set small)
+
+  pub picture_left : (dry : ℕ) → bit (bit_or dry (flag_of k)) k ≡ true
+  picture_left dry = bit_or_lem dry (flag_of k) k ∙ or_right _ _ (flag_is (edges_of p) n k (flag_of k) one set small k ∙ eq-eqb k k refl)
 
   module _ (wet dry : ℕ) (f : Flooded (edges_of p) 1 (bit_xor n (flag_of k)) wet dry) where
     pub picture_all : bit_or dry (flag_of k) < 2 ^ p.count

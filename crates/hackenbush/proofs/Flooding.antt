@@ -90,6 +90,13 @@ module _ (es : List Edge) (i wet dry ends : ℕ) (E : Ends es i ends) (left : bi
       outcome = inl (clear_less dry i left few low);
     }
 
+pub looked_below : {es : List Edge} {i wet dry wet' dry' : ℕ} → Looked es i wet dry wet' dry' → dry' ≤ dry
+looked_below l = elim l.outcome [ inl h ↦ omega arith | inr s ↦ omega (arith, s.0) ]
+
+-- a look, and then the flood
+pub looked_on : {es : List Edge} {i wet dry w d wet' dry' : ℕ} → Looked es i wet dry w d → Flooded es w d wet' dry' → Flooded es wet dry wet' dry'
+looked_on l f = record { keeps = λ up g. f.keeps up (l.keeps up g); below = omega (arith, f.below, looked_below l); closed = f.closed }
+
 -- A round on its way: the edges still to be looked at are dry; fewer are dry than at its start, or nothing has changed and none of the others can be gone along.
 pub record Turning (es : List Edge) (wet dry todo wet' dry' : ℕ) : Type 0 where
   pub within : (j : ℕ) → bit todo j ≡ true → bit dry' j ≡ true

@@ -28,7 +28,8 @@ impl Colour {
     }
 }
 
-// A loop has one vertex at both ends; the order of the ends does not matter. What `Default` makes fills places that no count reaches.
+// A loop has one vertex at both ends; the order of the ends does not matter.
+// What `Default` makes fills places that no count reaches.
 #[derive(Clone, Copy, Debug, Default, PartialEq, Eq)]
 pub struct Edge {
     pub from: u8,

@@ -1,4 +1,5 @@
-// The theorems on what is joined to the ground, each asked for by the contract of a function that does nothing else.
+// The theorems on what is joined to the ground, each asked for by the contract of a function
+// that does nothing else.
 ghost use Rattle.hackenbush.specs.Laws.{FallKeepsJoined, LegalWhenJoined, ReachIsJoined};
 
 pub fn reach_is_joined()

@@ -11,7 +11,8 @@ mod chains;
 // How many chains there are.
 const CHAINS: usize = 128;
 
-// A chain runs from the last row of its own down to the first: `firsts` has where each begins, `lowers` where it goes on from a row.
+// A chain runs from the last row of its own down to the first:
+// `firsts` has where each begins, `lowers` where it goes on from a row.
 // So each row is in the chain of the sum of its options, and in no other.
 #[derive(Drop)]
 pub struct HashTable {

@@ -7,8 +7,8 @@ use Rattle.std.proofs.lemmas.Bool.{ne_eqb}
 use Rattle.games.specs.Form.{Form as Game, form}
 use Rattle.games.specs.Text.{Mark, open_mark, bar, close_mark, comma, byte}
 use Rattle.games.specs.declared.side.Side.TheVariants.{Left, Right}
-use Rattle.games.proofs.Reader.{Bracket, in_left, in_right, State, wants, fresh, after, done, wrong, put, finish}
-use Rattle.games.proofs.Reader
+use Rattle.games.specs.Reader.{Bracket, in_left, in_right, State, wants, fresh, after, done, wrong, put, finish}
+use Rattle.games.specs.Reader
 use Rattle.calls.specs.Nests.{Stands, Stepped, Refused, behind, outer_of, spot_of}
 use Rattle.calls.specs.declared.fault.TextFault.{TextFault}
 use Rattle.calls.specs.declared.fault.TextFault.TheVariants.{WrongByte, EarlyEnd, TooDeep}

@@ -4,7 +4,7 @@ use Rattle.std.specs.Prelude.{◌≡◌, List, [], ◌∷◌, map, reverse, leng
 use Rattle.std.proofs.Common.{arith}
 use Rattle.std.proofs.lemmas.List.{length-reverse}
 use Rattle.games.specs.declared.side.Side.TheVariants.{Left, Right}
-use Rattle.games.proofs.Reader.{Bracket, in_left, in_right, State, wants, fresh, after, done, wrong}
+use Rattle.games.specs.Reader.{Bracket, in_left, in_right, State, wants, fresh, after, done, wrong}
 use Rattle.calls.specs.Nests.{behind, outer_of}
 use Rattle.calls.specs.TextSpots.{open_at}
 use Rattle.calls.specs.declared.nest.Nest.{Nest}

@@ -29,7 +29,9 @@ impl<'a> Reader<'a> {
 
     // The byte at the cursor.
     fn peek(&self) -> Result<u8, TextFault>
-        ensures { MatchResult result (λ b. (self.now.at < length self.now.line.now) × (b ≡ slice_index self.now.line.now self.now.at)) (λ f. (length self.now.line.now ≤ self.now.at) × (f ≡ EarlyEnd self.now.at)) }
+        ensures { MatchResult result (λ b. (self.now.at < length self.now.line.now)
+            × (b ≡ slice_index self.now.line.now self.now.at))
+            (λ f. (length self.now.line.now ≤ self.now.at) × (f ≡ EarlyEnd self.now.at)) }
     {
         self.line
             .get(self.at)
@@ -39,7 +41,8 @@ impl<'a> Reader<'a> {
 
     // Refuses a byte behind the end.
     pub fn end(&self) -> Result<(), TextFault>
-        ensures { MatchResult result (λ _. length self.now.line.now ≤ self.now.at) (λ f. (self.now.at < length self.now.line.now) × (f ≡ WrongByte self.now.at)) }
+        ensures { MatchResult result (λ _. length self.now.line.now ≤ self.now.at)
+            (λ f. (self.now.at < length self.now.line.now) × (f ≡ WrongByte self.now.at)) }
     {
         if self.at < self.line.len() {
             return Err(TextFault::WrongByte(self.at));
@@ -83,7 +86,8 @@ impl<'a> Reader<'a> {
 
     // Takes one of the words, which its first letter tells.
     fn keyword<K: Keyword>(&mut self) -> Result<K, TextFault>
-        ensures { Takes self.old self.new (K.symbol ∷ []) K.rest (λ keyword w. w ≡ K.spelt keyword) result }
+        ensures { Takes self.old self.new (K.symbol ∷ []) K.rest (λ keyword w. w ≡ K.spelt keyword)
+            result }
     {
         let keyword = K::from_letter(self.peek()?).ok_or(TextFault::WrongByte(self.at))?;
         self.at += 1;
@@ -93,7 +97,8 @@ impl<'a> Reader<'a> {
 
     // Takes the bytes of a walk from its start, the last one too.
     fn walk<W: Walk>(&mut self, start: W) -> Result<(), TextFault>
-        ensures { Reads self.old self.new (W.stack start) (λ _ w. Walked (W.stack start) W.last w) result }
+        ensures { Reads self.old self.new (W.stack start) (λ _ w. Walked (W.stack start) W.last w)
+            result }
     {
         let mut walk = start;
         while walk.step(self.peek()?, self.at)?.is_continue() {

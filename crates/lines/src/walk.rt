@@ -13,7 +13,8 @@ pub trait Walk: Drop {
 
     ghost last: { ℕ };
 
-    // Goes on where the byte leads, or ends behind the last one; or its fault, the byte standing at the place.
+    // Goes on where the byte leads, or ends behind the last one;
+    // or its fault, the byte standing at the place.
     fn step(&mut self, byte: u8, place: usize) -> Result<ControlFlow<()>, TextFault>
         ensures { Stepped last (stack self.old) (stack self.new) byte place result };
 

@@ -8,14 +8,17 @@ use crate::slots::Slots;
 use crate::table::Table;
 use std::alloc::Global;
 
-// The places that a hashed table begins with, and the most that it may have: 16 bytes each, so 256 MiB.
+// The places that a hashed table begins with, and the most that it may have:
+// 16 bytes each, so 256 MiB.
 const FIRST: usize = 256;
 
 const MOST: usize = 16_777_216;
 
-// A hashed table of so many places gives way to one with a place for every code, where there are at most so many codes: 4 bytes each, so 64 MiB.
-const SWITCH: usize = 65_536;
+// A table with a place for every code serves, where there are at most so many codes for each place
+// of a hashed one: at 4 bytes a code it is up to 4 times as large as that, and faster.
+const SPREAD: usize = 16;
 
+// The most codes that may have a place each: 64 MiB.
 const MOST_CODES: usize = 16_777_216;
 
 // Numbers by codes. It takes more memory as it needs it; where there is none, it forgets.
@@ -68,15 +71,18 @@ impl Memory {
     fn larger(&self, slots: &Slots) -> Option<Table>
         ensures { HoldsOf slots.now result }
     {
-        self.indexed(slots).or_else(|| self.wider(slots))
+        let places = slots.places().saturating_mul(4).clamp(FIRST, MOST);
+        self.indexed(slots, places)
+            .or_else(|| self.wider(slots, places))
     }
 
-    // A table with a place for every code, if the codes are few enough, many numbers are noted, and there is memory for it.
-    fn indexed(&self, slots: &Slots) -> Option<Table>
+    // A table with a place for every code, if it is not too large next to a hashed one of so many
+    // places, and there is memory for it.
+    fn indexed(&self, slots: &Slots, places: usize) -> Option<Table>
         ensures { HoldsOf slots.now result }
     {
         let codes = self.codes?;
-        if slots.places() < SWITCH {
+        if codes / SPREAD > places {
             return None;
         }
         let mut direct = Direct::with_places(self.heap, codes)?;
@@ -84,16 +90,14 @@ impl Memory {
         Some(Table::Indexed(direct))
     }
 
-    // A larger hashed table, if it may be larger and there is memory for it.
-    fn wider(&self, slots: &Slots) -> Option<Table>
+    // A hashed table of so many places, if they are more and there is memory for it.
+    fn wider(&self, slots: &Slots, places: usize) -> Option<Table>
         ensures { HoldsOf slots.now result }
     {
-        let places = slots.places();
-        let more = places.saturating_mul(4).clamp(FIRST, MOST);
-        if more <= places {
+        if places <= slots.places() {
             return None;
         }
-        let mut wide = Slots::with_places(self.heap, more)?;
+        let mut wide = Slots::with_places(self.heap, places)?;
         slots.copy_into(&mut wide);
         Some(Table::Hashed(wide))
     }

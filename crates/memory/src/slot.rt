@@ -1,6 +1,7 @@
 // A place of a hashed table.
 
-// A code and its number; a free place has none. The code stands beside the `Option`, which keeps a place at 16 bytes.
+// A code and its number; a free place has none. The code stands beside the `Option`,
+// which keeps a place at 16 bytes.
 #[derive(Clone, Copy, Debug, PartialEq, Eq)]
 pub struct Slot {
     pub code: u64,

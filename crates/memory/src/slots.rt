@@ -57,7 +57,8 @@ impl Slots {
         (code.wrapping_mul(0x9E37_79B9_7F4A_7C15) >> 32) as usize
     }
 
-    // The first place tried that is free or has the code, or else the first one tried; none in a table without places.
+    // The first place tried that is free or has the code, or else the first one tried;
+    // none in a table without places.
     fn place(&self, code: u64) -> Option<usize>
         ensures { IfSome result (λ p. p < length self.now.slots.items) }
     {

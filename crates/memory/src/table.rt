@@ -5,7 +5,7 @@ use crate::direct::Direct;
 use crate::notes::Notes;
 use crate::slots::Slots;
 
-// A hashed table at first, and one with a place for every code once many are noted.
+// A hashed table, or one with a place for every code where that is not too large.
 #[derive(Drop)]
 pub enum Table {
     Hashed(Slots),

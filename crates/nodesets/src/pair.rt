@@ -51,7 +51,8 @@ impl Pair {
 
     // The node goes into the set of the side; a number from 384 on cannot.
     pub fn insert(&mut self, side: Side, node: usize)
-        ensures own { (k : ℕ) → by self.new side k ≡ ((k == node && nat_lt k 384) || by self.old side k) }
+        ensures own { (k : ℕ) → by self.new side k
+            ≡ ((k == node && nat_lt k 384) || by self.old side k) }
         ensures theirs { (k : ℕ) → by self.new (other side) k ≡ by self.old (other side) k }
     {
         self.of_mut(side).insert(node);

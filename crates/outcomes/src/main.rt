@@ -1,4 +1,5 @@
-// Positions of unlike boards, their negatives and sums of them: what each ruleset tells, and the outcome by play.
+// Positions of unlike boards, their negatives and sums of them:
+// what each ruleset tells, and the outcome by play.
 #![tactic(auto)]
 
 use demos::samples::stalk;

@@ -5,17 +5,16 @@ use Rattle.std.specs.ControlFlow.{break_value}
 use Rattle.std.proofs.lemmas.List.{length-reverse}
 use Rattle.games.specs.Form.{Form}
 use Rattle.games.specs.Text.{Mark, open_mark, close_mark, byte}
-use Rattle.games.proofs.Reader.{State, wants, done, wrong, next}
+use Rattle.games.specs.Reader.{State, wants, done, wrong, next, brackets, at}
 use Rattle.calls.specs.Faults.{number_of, place_of}
 use Rattle.calls.specs.Nests.{Stands, Stepped, Refused}
 use Rattle.calls.specs.Texts.{Written, Fault}
 use Rattle.calls.specs.declared.fault.TextFault.{TextFault}
 use Rattle.calls.specs.declared.fault.TextFault.TheVariants.{WrongByte, EarlyEnd, TooDeep}
 use Rattle.calls.specs.declared.nest.Nest.{Nest}
-use Rattle.calls.proofs.Bracketed.{brackets}
 use Rattle.calls.proofs.Nesting.{going, open_here}
 use Rattle.calls.proofs.Scanned.{Scanned, scan_begins, scan_no_mark, scan_wrong, scan_deep, scan_on, scan_early, scan_done, at_more}
-use Rattle.calls.proofs.Texts.{at, is_mark}
+use Rattle.calls.proofs.Texts.{is_mark}
 use Rattle.reading.specs.Verdict.{Verdict}
 
 -- a text with a fault

@@ -5,9 +5,9 @@ use Rattle.std.specs.Prelude.{IsSome}
 use Rattle.games.specs.Form.{Form, Forms, ∅}
 use Rattle.games.specs.Numbered.{Lists}
 use Rattle.games.specs.declared.side.Side.{Side}
-use Rattle.games.proofs.Reader.{Bracket, in_left, in_right, put, finish}
+use Rattle.games.specs.Reader.{Bracket, in_left, in_right, put, finish, brackets}
 use Rattle.calls.specs.Rows.{no_numbers}
-use Rattle.calls.proofs.Bracketed.{brackets, put_number, put_outside}
+use Rattle.calls.specs.Brackets.{put_number, put_outside}
 use Rattle.reading.specs.declared.frames.Frame.{Frame}
 use Rattle.reading.specs.Held.{Fresh, Held, Holds, Popped, Turned}
 use Rattle.reading.specs.Sided.{with_number}

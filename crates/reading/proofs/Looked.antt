@@ -6,7 +6,7 @@ use Rattle.std.specs.Prelude.{IfOk}
 use Rattle.games.specs.Form.{Form}
 use Rattle.games.specs.Numbered.{Lists}
 use Rattle.games.specs.Text.{close_mark}
-use Rattle.games.proofs.Reader.{State, next}
+use Rattle.games.specs.Reader.{State, next, outside}
 use Rattle.stores.specs.Rows.{Lawful, Finds, lowest}
 use Rattle.stores.proofs.Lowest.{lowest_finds}
 use Rattle.calls.specs.Answers.{told}
@@ -14,7 +14,7 @@ use Rattle.calls.specs.Reading.{LooksUp}
 use Rattle.calls.specs.Rows.{Rows, node}
 use Rattle.calls.specs.Sound.{Sound}
 use Rattle.calls.specs.Texts.{Written, Fault}
-use Rattle.calls.proofs.Bracketed.{outside, put_outside}
+use Rattle.calls.specs.Brackets.{put_outside}
 use Rattle.calls.proofs.LookUp.{looking_up_has_one_outcome, look_up_finds_the_nodes}
 use Rattle.calls.proofs.LookedUp.{LookedUp, look_begins, look_opens, look_bars, look_commas, look_closes, look_ends, look_misses}
 use Rattle.calls.proofs.Texts.{no_fault}

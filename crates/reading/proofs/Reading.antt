@@ -5,7 +5,7 @@ use Rattle.std.specs.Prelude.{IfOk}
 use Rattle.games.specs.Form.{Form}
 use Rattle.games.specs.Numbered.{Lists}
 use Rattle.games.specs.Text.{bytes}
-use Rattle.games.proofs.Reader.{State}
+use Rattle.games.specs.Reader.{State}
 use Rattle.calls.specs.Answers.{Answer, told, refused_at}
 use Rattle.calls.specs.Entering.{Entry, entry, Enters}
 use Rattle.calls.specs.Reading.{Reads}

@@ -6,13 +6,12 @@ use Rattle.std.proofs.lemmas.List.{length-map, length-take, take-map, take_all, 
 use Rattle.games.specs.Form.{Form, Forms, ∅}
 use Rattle.games.specs.Text.{open_mark, bar, close_mark, comma, byte, text}
 use Rattle.games.specs.Text
-use Rattle.games.proofs.Reader.{Bracket, in_left, in_right, State, wants, fresh, after, done, wrong, finish, next, run}
+use Rattle.games.specs.Reader.{Bracket, in_left, in_right, State, wants, fresh, after, done, wrong, finish, next, run, brackets, outside, Alive, at}
 use Rattle.games.proofs.Reading.{run_++}
 use Rattle.games.proofs.Text.{mark, mark_byte}
 use Rattle.calls.specs.Texts.{nesting, Written}
-use Rattle.calls.proofs.Bracketed.{brackets, outside, closing, alive_before, text_at}
+use Rattle.calls.proofs.Bracketed.{closing, alive_before, text_at}
 use Rattle.calls.proofs.Scanned.{at_more, nesting_is}
-use Rattle.calls.proofs.Texts.{Alive, at}
 use Rattle.reading.specs.declared.mark.Mark.{Mark}
 use Rattle.reading.specs.declared.mark.NoMark.{NoMark}
 use Rattle.reading.specs.Marks.{Marks, meant, mark_of}

@@ -5,10 +5,11 @@ use Rattle.std.proofs.Common.{◌≡◌, ℕ, ◌+◌, ◌<◌, ◌≤◌, List,
 use Rattle.games.specs.Form.{Form, ∅}
 use Rattle.games.specs.Numbered.{Lists}
 use Rattle.games.specs.Text.{open_mark, bar, close_mark, comma, text}
-use Rattle.games.proofs.Reader.{Bracket, State, done, finish, next}
+use Rattle.games.specs.Reader.{Bracket, State, done, finish, next, brackets, outside}
 use Rattle.calls.specs.Rows.{no_numbers}
 use Rattle.calls.specs.Texts.{Written}
-use Rattle.calls.proofs.Bracketed.{brackets, outside, closing, put_outside}
+use Rattle.calls.specs.Brackets.{put_outside}
+use Rattle.calls.proofs.Bracketed.{closing}
 use Rattle.reading.specs.declared.frames.Frame.{Frame}
 use Rattle.reading.specs.Held.{Fresh, Holds, Popped, Turned}
 use Rattle.reading.specs.Walked.{Walk, Walked}

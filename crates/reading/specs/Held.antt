@@ -3,7 +3,7 @@
 use Rattle.std.specs.Prelude.{◌≡◌, List, [], ◌∷◌, reverse, Some, None, Option}
 use Rattle.games.specs.declared.side.Side.TheVariants.{Left, Right}
 use Rattle.games.specs.Numbered.{Lists}
-use Rattle.games.proofs.Reader.{Bracket}
+use Rattle.games.specs.Reader.{Bracket}
 use Rattle.calls.specs.Rows.{no_numbers}
 use Rattle.calls.specs.TextSpots.{side_of}
 use Rattle.reading.specs.declared.frames.Frame.{Frame}

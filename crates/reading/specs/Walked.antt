@@ -4,10 +4,9 @@ use Rattle.std.specs.Prelude.{◌≡◌, ℕ, List, [], ◌∷◌, ◌++◌, len
 use Rattle.games.specs.Form.{Form}
 use Rattle.games.specs.Numbered.{Lists}
 use Rattle.games.specs.Text.{Mark, open_mark, bar, close_mark, comma, text}
-use Rattle.games.proofs.Reader.{State, wants, done, next}
+use Rattle.games.specs.Reader.{State, wants, done, next, outside, Alive, at}
 use Rattle.calls.specs.Rows.{no_numbers}
-use Rattle.calls.proofs.Bracketed.{outside, put_outside}
-use Rattle.calls.proofs.Texts.{Alive, at}
+use Rattle.calls.specs.Brackets.{put_outside}
 
 -- Some marks are taken, after which the machine is in a state and the options of its open brackets have the numbers of the lists.
 -- Each bracket that closed so far is told a number, which goes to the brackets outside: so closing led from start to another value.

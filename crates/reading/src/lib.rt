@@ -1,4 +1,5 @@
-// Texts of games: whether a text is a form's, reading one into a dictionary, and looking one up in a frozen one.
+// Texts of games: whether a text is a form's, reading one into a dictionary,
+// and looking one up in a frozen one.
 #![tactic(auto)]
 
 pub mod check;

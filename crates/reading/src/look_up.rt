@@ -1,4 +1,5 @@
-// Looking a text up in a frozen dictionary: each bracket's lists, as written, are to be a row of the store.
+// Looking a text up in a frozen dictionary: each bracket's lists, as written,
+// are to be a row of the store.
 ghost use Rattle.calls.specs.Reading.{LooksUp};
 ghost use Rattle.reading.specs.Faults.{look_up_answer};
 ghost use Rattle.reading.specs.Found.{Found, FindsNodes};
@@ -23,7 +24,8 @@ impl<'a, S: Store> Closing<Spelling, LookUpFault> for &'a Frozen<S> {
     }
 }
 
-// The node whose text this is. A text with a fault is refused as in reading; else the first bracket that is no node's.
+// The node whose text this is. A text with a fault is refused as in reading;
+// else the first bracket that is no node's.
 pub fn look_up<S: Store>(frozen: &Frozen<S>, text: &[u8]) -> Result<u16, LookUpFault>
     ensures looks { LooksUp frozen.now.rows text.now (look_up_answer result) }
     ensures nodes { FindsNodes frozen.now.rows text.now result }

@@ -16,7 +16,8 @@ pub(crate) trait Options: Copy + Default {
 
     // A node is an option of the side.
     fn put(&mut self, side: Side, node: u16)
-        ensures { node < 384 → (l : Lists) → keeps self.old l → keeps self.new (with_number side node l) };
+        ensures { node < 384 → (l : Lists) → keeps self.old l
+            → keeps self.new (with_number side node l) };
 
     // No options are kept at first.
     ghost blank: { (options : Self) → Self.is_default options → keeps options no_numbers };

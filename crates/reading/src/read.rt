@@ -22,10 +22,13 @@ impl<S: Store> Closing<Pair, ReadFault> for Dictionary<S> {
     }
 }
 
-// The node of a text's value. The text is checked first, and then each bracket is sealed as it closes.
+// The node of a text's value. The text is checked first,
+// and then each bracket is sealed as it closes.
 pub fn read<S: Store>(dictionary: &mut Dictionary<S>, text: &[u8]) -> Result<u16, ReadFault>
-    ensures reads { TextRead dictionary.old.room dictionary.old.rows text.now (read_answer result) dictionary.new.rows }
-    ensures step { ReadSteps dictionary.old.room dictionary.old.rows text.now (read_answer result) dictionary.new.rows }
+    ensures reads { TextRead dictionary.old.room dictionary.old.rows text.now (read_answer result)
+        dictionary.new.rows }
+    ensures step { ReadSteps dictionary.old.room dictionary.old.rows text.now (read_answer result)
+        dictionary.new.rows }
     ensures back { ReadsBack dictionary.old.rows text.now result dictionary.new.rows }
     ensures room { dictionary.new.room ≡ dictionary.old.room }
 {

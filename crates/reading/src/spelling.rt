@@ -7,7 +7,8 @@ use games::bounds::MOST_OPTIONS;
 use games::side::Side;
 use stores::row::Sides;
 
-// How many numbers of a side are kept: one more than a row can have, so that a longer list is found in no row.
+// How many numbers of a side are kept: one more than a row can have,
+// so that a longer list is found in no row.
 const KEPT: usize = MOST_OPTIONS + 1;
 
 // The numbers of the Left options and of the Right options, in their order.

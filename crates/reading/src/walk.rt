@@ -12,15 +12,18 @@ use crate::options::Options;
 
 // What names a node for a bracket that closes.
 pub(crate) trait Closing<T: Options, E> {
-    // Closing a bracket: what is there before, the numbers of its options, the place of the mark, what is answered, and what is there after.
+    // Closing a bracket: what is there before, the numbers of its options, the place of the mark,
+    // what is answered, and what is there after.
     ghost closes: { Self → Lists → ℕ → Result ℕ E → Self → Type 0 };
 
     // The node of the bracket that the mark at the place closes.
     fn close(&mut self, options: &T, place: usize) -> Result<u16, E>
-        ensures { (l : Lists) → T.Options.keeps options.now l → closes self.old l place result self.new × IfOk result (λ n. n < 384) };
+        ensures { (l : Lists) → T.Options.keeps options.now l
+            → closes self.old l place result self.new × IfOk result (λ n. n < 384) };
 }
 
-// The node of the last bracket of a form's text, if none is refused; each is an option of the bracket outside, if there is one.
+// The node of the last bracket of a form's text, if none is refused;
+// each is an option of the bracket outside, if there is one.
 pub(crate) fn walk<T: Options, E, C: Closing<T, E>>(
     closing: &mut C,
     frames: &mut Frames<T>,
@@ -28,7 +31,8 @@ pub(crate) fn walk<T: Options, E, C: Closing<T, E>>(
 ) -> Result<u16, E>
     requires none_open { stack_of frames.old ≡ [] }
     requires written { (g : Form) × Written text.now g }
-    ensures { (g : Form) → Written text.now g → Walked C.Closing.closes closing.old g result closing.new }
+    ensures { (g : Form) → Written text.now g
+        → Walked C.Closing.closes closing.old g result closing.new }
 {
     let mut last = 0;
     for (place, byte) in text.iter().enumerate() {

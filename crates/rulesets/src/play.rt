@@ -11,7 +11,8 @@ use games::outcome::Outcome;
 use games::side::Side;
 use std::alloc::{AllocError, Global};
 
-// Whether the side, starting at the position, can win: some move leaves a position that the other, starting it, cannot win.
+// Whether the side, starting at the position, can win: some move leaves a position that the other,
+// starting it, cannot win.
 pub fn can_win<R: Ruleset>(board: &R, side: Side, code: u64) -> bool
     ensures { result ≡ starter_wins (R.Ruleset.rules board.now) side code }
 {
@@ -32,7 +33,8 @@ pub fn outcome_of<R: Ruleset>(board: &R, code: u64) -> Outcome
     )
 }
 
-// The indices, rising, of the side's moves that win: from there the other, starting, cannot win. Fails only for want of memory.
+// The indices, rising, of the side's moves that win: from there the other, starting, cannot win.
+// Fails only for want of memory.
 pub fn winning_moves<R: Ruleset>(
     heap: Global,
     board: &R,

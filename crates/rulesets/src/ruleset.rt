@@ -5,7 +5,8 @@ ghost use Rattle.rulesets.specs.Rules.{Rules, Lawful};
 
 use games::side::Side;
 
-// Every question is total: for a code that is not legal, counts and rank are 0 and every successor is absent.
+// Every question is total: for a code that is not legal,
+// counts and rank are 0 and every successor is absent.
 pub trait Ruleset {
     // what the ruleset means, fixed for as long as it lives
     ghost rules: { Self → Rules };

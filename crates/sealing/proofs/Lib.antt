@@ -18,5 +18,5 @@ pub mod Listed
 pub mod Placing
 pub mod Kept
 pub mod Sealing
-pub mod Writing
+pub mod Counted
 pub mod Asking

@@ -15,7 +15,8 @@ use games::side::Side;
 use nodesets::nodeset::NodeSet;
 use nodesets::pair::Pair;
 
-// What is known of a game for one side: the nodes that are decided, and of those the ones that it is as good as.
+// What is known of a game for one side: the nodes that are decided,
+// and of those the ones that it is as good as.
 #[derive(Clone, Copy)]
 pub struct Known {
     pub decided: NodeSet,
@@ -38,17 +39,26 @@ impl Nodes {
 
     // The lowest node that is not decided for both sides.
     fn undecided(&self, left: &Known, right: &Known) -> Option<usize>
-        ensures { LowestUndecided (vec_len self.now.rows) (has left.now.decided) (has right.now.decided) result }
+        ensures { LowestUndecided (vec_len self.now.rows) (has left.now.decided)
+            (has right.now.decided) result }
     {
         let node = left.decided.missing(&right.decided)?;
         (node < self.rows.len()).then_some(node)
     }
 
-    // Decides the node h for the side, and with it all nodes that are as good as h, or that h is as good as.
+    // Decides the node h for the side, and with it all nodes that are as good as h,
+    // or that h is as good as.
     // theirs: of the nodes below h those that the game is as good as for the other side.
     fn decide(&self, side: Side, known: &mut Known, theirs: &NodeSet, h: usize)
         requires { h < vec_len self.now.rows }
-        ensures { (o : Sets) → Within (length (links self.now)) o → Partly (links self.now) (ranks self.now) side o (has known.old.decided) (has known.old.worse) → ((k : ℕ) → k < h → has theirs.now k ≡ as_good (other side) (game (links self.now) o) (node (links self.now) k)) → Further (links self.now) (ranks self.now) side o h (has known.old.decided) (has known.new.decided) (has known.new.worse) }
+        ensures { (o : Sets) → Within (length (links self.now)) o
+            → Partly (links self.now) (ranks self.now) side o (has known.old.decided)
+            (has known.old.worse)
+            → ((k : ℕ) → k < h
+            → has theirs.now k ≡ as_good (other side) (game (links self.now) o)
+            (node (links self.now) k))
+            → Further (links self.now) (ranks self.now) side o h (has known.old.decided)
+            (has known.new.decided) (has known.new.worse) }
     {
         if known.decided.contains(h) {
             return;
@@ -92,7 +102,9 @@ impl Nodes {
 
     // Whether a and b are nodes, and a is as good as b for the side.
     pub fn is_as_good(&self, side: Side, a: usize, b: usize) -> bool
-        ensures { result ≡ ((nat_lt a (length (links self.now)) && nat_lt b (length (links self.now))) && as_good side (node (links self.now) a) (node (links self.now) b)) }
+        ensures { result ≡ ((nat_lt a (length (links self.now))
+            && nat_lt b (length (links self.now)))
+            && as_good side (node (links self.now) a) (node (links self.now) b)) }
     {
         a < self.rows.len() && self.rows[a].worse.of(side).contains(b)
     }

@@ -1,5 +1,5 @@
 // The listing: how sets of nodes compare by it, and the nodes of a set in its order.
-ghost use Rattle.std.specs.Prelude.{◌≡◌, ◌+◌, ◌<◌, ◌≤◌, true, false, not, ◌++◌, length, take, drop, filter};
+ghost use Rattle.std.specs.Prelude.{◌≡◌, ◌≤◌, not, length, filter};
 ghost use Rattle.std.specs.Option.{SomeIff, option_map};
 ghost use Rattle.std.specs.declared.cmp.Ordering.TheVariants.{Equal};
 ghost use Rattle.nodesets.specs.Pairs.{by};
@@ -64,25 +64,10 @@ pub fn count_listed(listing: &[u16], set: &NodeSet) -> usize
         .count()
 }
 
-// Writes the nodes of the listing that are in the set, as many as fit, to the front of the buffer; answers how many there are.
-pub fn write_listed(listing: &[u16], set: &NodeSet, buffer: &mut [u16]) -> usize
-    ensures number { result ≡ length (filter (has set.now) listing.now) }
-    ensures written { buffer.new ≡ take (length buffer.old) (filter (has set.now) listing.now) ++ drop result buffer.old }
-{
-    let listed = listing
-        .iter()
-        .filter(|node| set.contains(usize::from(**node)));
-    for (n, node) in listed.enumerate() {
-        if n < buffer.len() {
-            buffer[n] = *node;
-        }
-    }
-    count_listed(listing, set)
-}
-
 // The nodes of the listing that are in the set, unless there are more than `MOST`.
 pub fn few_listed<const MOST: usize>(listing: &[u16], set: &NodeSet) -> Option<ArrayVec<u16, MOST>>
-    ensures { SomeIff (option_map (λ nodes. nodes.items) result) (length (filter (has set.now) listing.now) ≤ MOST) (filter (has set.now) listing.now) }
+    ensures { SomeIff (option_map (λ nodes. nodes.items) result)
+        (length (filter (has set.now) listing.now) ≤ MOST) (filter (has set.now) listing.now) }
 {
     let mut nodes = ArrayVec::new();
     for node in listing {

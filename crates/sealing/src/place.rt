@@ -13,7 +13,9 @@ use nodesets::pair::Pair;
 impl Nodes {
     // Whether the node comes before these options in the listing.
     fn is_before(&self, listing: &[u16], node: u16, options: &Pair) -> bool
-        ensures { result ≡ (nat_lt node (length (links self.now)) && is_lt (pair_order (slice_index_or (links self.now) node none) (by options.now) listing.now)) }
+        ensures { result ≡ (nat_lt node (length (links self.now))
+            && is_lt (pair_order (slice_index_or (links self.now) node none) (by options.now)
+            listing.now)) }
     {
         let node = usize::from(node);
         node < self.rows.len() && order_pairs(listing, &self.rows[node].options, options).is_lt()

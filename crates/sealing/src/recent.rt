@@ -12,7 +12,8 @@ pub struct Entry {
     pub node: u16,
 }
 
-// Pairs that were sealed, each at a place that its sets tell; a later one may take the place of another.
+// Pairs that were sealed, each at a place that its sets tell;
+// a later one may take the place of another.
 #[derive(Drop)]
 pub struct Recent {
     entries: Vec<Option<Entry>>,

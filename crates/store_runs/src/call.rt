@@ -29,7 +29,8 @@ pub enum StoreAnswer {
 // Makes a call, and gives what the store answers.
 pub fn ask<S: Store>(store: &mut S, call: StoreCall) -> StoreAnswer
     ensures answer { result ≡ answer_to (S.Store.rows store.old) (S.Store.room store.old) call }
-    ensures rows { S.Store.rows store.new ≡ rows_after (S.Store.rows store.old) (S.Store.room store.old) call }
+    ensures rows { S.Store.rows store.new ≡ rows_after (S.Store.rows store.old)
+        (S.Store.room store.old) call }
     ensures room { S.Store.room store.new ≡ S.Store.room store.old }
 {
     match call {

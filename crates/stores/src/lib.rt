@@ -1,4 +1,5 @@
-// Stores of rows: numbered nodes, each with the numbers of its Left options and of its Right options.
+// Stores of rows: numbered nodes, each with the numbers of its Left options and of its Right
+// options.
 #![tactic(auto)]
 
 pub mod fault;

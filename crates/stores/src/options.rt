@@ -33,7 +33,8 @@ impl<'a, S: Store> Iterator for Options<'a, S> {
 
 // The side's options of a node, in order.
 pub fn options_of<'a, S: Store>(store: &'a S, side: Side, node: u16) -> Options<'a, S>
-    ensures { options_left S.Store.rows result ≡ list_of side (row_at (S.Store.rows store.now) node) }
+    ensures { options_left S.Store.rows result ≡ list_of side
+        (row_at (S.Store.rows store.now) node) }
 {
     Options {
         store,

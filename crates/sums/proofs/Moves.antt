@@ -1,14 +1,15 @@
 -- What the code of a sum works out: the parts' codes, the count of the successors and each of them.
 -- Assumes nothing.
-use Rattle.std.proofs.Common.{◌≡◌, ℕ, zero, suc, ◌+◌, ◌-◌, ◌*◌, ◌^◌, ◌<◌, ◌≤◌, Bool, true, false, cond, List, [], ◌∷◌, ◌++◌, map, length, Some, None, Option, sym, refl, ap, ◌∙◌, arith}
+use Rattle.std.proofs.Common.{◌≡◌, ℕ, zero, suc, ◌+◌, ◌-◌, ◌*◌, ◌/◌, ◌%◌, ◌^◌, ◌<◌, ◌≤◌, Bool, true, false, cond, List, [], ◌∷◌, ◌++◌, map, length, Some, None, Option, sym, refl, ap, ◌∙◌, inl, inr, arith}
 use lib.Arith.{digits_lt}
 use Rattle.std.specs.List.{slice_get}
 use Rattle.std.specs.Option.{option_map}
+use Rattle.std.proofs.lemmas.Bool.{cases_Bool, cases_lt, and_from}
 use Rattle.std.proofs.lemmas.Option.{slice_get-map}
 use Rattle.games.specs.declared.side.Side.{Side}
 use Rattle.rulesets.specs.Rules.{Rules, Lawful}
-use Rattle.rulesets.proofs.Positions.{successor_falls}
-use Rattle.sums.specs.Sums.{first_code, second_code, legal_both, part_codes, plus}
+use Rattle.rulesets.proofs.Positions.{nth_none, successor_falls}
+use Rattle.sums.specs.Sums.{fits, first_code, second_code, legal_both, moves_in, part_codes, plus}
 use Rattle.sums.specs.Parts.{both, fit, moves_at}
 
 -- an item of the first of two lists, and of the second
@@ -21,6 +22,14 @@ nth_second : (f g : ℕ → ℕ) (xs ys : List ℕ) (i : ℕ) → length xs ≤ 
 nth_second f g [] ys i h = ap (slice_get (map g ys)) (omega arith)
 nth_second f g (x ∷ xs) ys zero h = absurd (omega arith)
 nth_second f g (x ∷ xs) ys (suc i) h = nth_second f g xs ys i (omega arith) ∙ ap (slice_get (map g ys)) (omega arith)
+
+-- an index at which there is nothing is past the end
+pub past_end : (xs : List ℕ) (i : ℕ) → None ≡ slice_get xs i → length xs ≤ i
+past_end xs i none = elim (cases_lt i (length xs)) [ inl h ↦ absurd (nth_none xs i h none) | inr h ↦ h ]
+
+-- a code with a successor is legal
+mover_legal : (R : Rules) → Lawful R → (s : Side) (n i m : ℕ) → Some m ≡ slice_get (R.moves s n) i → R.legal n ≡ true
+mover_legal R l s n i m there = elim (cases_Bool (R.legal n)) [ inl t ↦ t | inr t ↦ absurd (omega (arith, l.no_rank n t, (successor_falls R l s n i m there).1)) ]
 
 module _ (A B : Rules) where
   -- what the parts' codes, where there are any, tell
@@ -72,3 +81,47 @@ module _ (A B : Rules) where
         let d = digits_lt (la.below (first_code B n) k.first) (lb.below m (successor_falls B lb s b j m there).0) in
         let f = (fit A B k.fitting).limits in
         rw (p.first_is, limit_is) (omega arith)
+
+  -- The code n of a sum that fits, cut in two by the limit of the second part.
+  module _ (la : Lawful A) (lb : Lawful B) (s : Side) (n base : ℕ) (fitting : fits A B ≡ true) (limit_is : base ≡ B.limit) where
+    first_is : n / base ≡ first_code B n
+    first_is = ap (λ (l : ℕ). n / l) limit_is
+
+    second_is : n % base ≡ second_code B n
+    second_is = ap (λ (l : ℕ). n % l) limit_is
+
+    told : legal_both A B n ≡ true → ◌≡◌ {A = Option (ℕ × ℕ)} (Some (n / base, n % base)) (part_codes A B n)
+    told l = rw (limit_is, l) refl
+
+    told_both : A.legal (n / base) ≡ true → B.legal (n % base) ≡ true → ◌≡◌ {A = Option (ℕ × ℕ)} (Some (n / base, n % base)) (part_codes A B n)
+    told_both p q = told (and_from _ _ fitting (and_from _ _ (ap A.legal (sym first_is) ∙ p) (ap B.legal (sym second_is) ∙ q)))
+
+    -- a move in the first part, where the second is legal
+    module _ (i m : ℕ) (there : Some m ≡ slice_get (A.moves s (n / base)) i) (q : B.legal (n % base) ≡ true) where
+      first_told : ◌≡◌ {A = Option (ℕ × ℕ)} (Some (n / base, n % base)) (part_codes A B n)
+      first_told = told_both (mover_legal A la s (n / base) i m there) q
+
+      pub in_first_fits : m * base + n % base < 2 ^ 64
+      in_first_fits = first_fits s n (n / base) (n % base) base first_told limit_is i m there la lb
+
+      pub in_first_found : Some (m * base + n % base) ≡ slice_get ((plus A B).moves s n) i
+      in_first_found = first_found s n (n / base) (n % base) base first_told limit_is i m there
+
+    -- past the moves in the first part
+    module _ (i before : ℕ) (before_is : before ≡ length (A.moves s (n / base))) (past : before ≤ i) where
+      -- a move in the second part, where the first is legal
+      module _ (m : ℕ) (there : Some m ≡ slice_get (B.moves s (n % base)) (i - before)) (p : A.legal (n / base) ≡ true) where
+        second_told : ◌≡◌ {A = Option (ℕ × ℕ)} (Some (n / base, n % base)) (part_codes A B n)
+        second_told = told_both p (mover_legal B lb s (n % base) (i - before) m there)
+
+        pub in_second_fits : n / base * base + m < 2 ^ 64
+        in_second_fits = second_fits s n (n / base) (n % base) base second_told limit_is la lb (i - before) m there
+
+        pub in_second_found : Some (n / base * base + m) ≡ slice_get ((plus A B).moves s n) i
+        in_second_found = second_found s n (n / base) (n % base) base second_told limit_is i before before_is past m there
+
+      pub in_neither : None ≡ slice_get (B.moves s (n % base)) (i - before) → None ≡ slice_get ((plus A B).moves s n) i
+      in_neither none = elim (cases_Bool (legal_both A B n)) [
+        | inl l ↦ none_found s n (n / base) (n % base) base (told l) limit_is i before before_is past none
+        | inr l ↦ sym (ap (λ t. slice_get (cond t (moves_in A B s (first_code B n) (second_code B n)) []) i) l)
+      ]

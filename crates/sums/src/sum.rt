@@ -31,7 +31,8 @@ struct Bounds {
     depth: usize,
 }
 
-// The numbers of the sum, where they keep to the bounds of a ruleset: limits multiply, widths and depths add.
+// The numbers of the sum, where they keep to the bounds of a ruleset:
+// limits multiply, widths and depths add.
 fn sum_bounds<A: Ruleset, B: Ruleset>(first: &A, second: &B) -> Option<Bounds>
     ensures { result ≡ sum_bounds (A.Ruleset.rules first.now) (B.Ruleset.rules second.now) }
 {
@@ -52,8 +53,12 @@ impl<A: Ruleset, B: Ruleset> Sum<A, B> {
     where
         A: Drop,
         B: Drop,
-        ensures parts { MatchResult result (λ s. (fits (A.Ruleset.rules first) (B.Ruleset.rules second) ≡ true) × (s.first ≡ first) × (s.second ≡ second)) (λ e. (fits (A.Ruleset.rules first) (B.Ruleset.rules second) ≡ false) × (e ≡ Large)) }
-        ensures adds { IfOk result (λ s. SumAdds (A.Ruleset.rules s.first) (B.Ruleset.rules s.second)) }
+        ensures parts { MatchResult result
+            (λ s. (fits (A.Ruleset.rules first) (B.Ruleset.rules second) ≡ true) × (s.first ≡ first)
+            × (s.second ≡ second))
+            (λ e. (fits (A.Ruleset.rules first) (B.Ruleset.rules second) ≡ false) × (e ≡ Large)) }
+        ensures adds { IfOk result (λ s. SumAdds (A.Ruleset.rules s.first)
+            (B.Ruleset.rules s.second)) }
         ensures forms { SumReads }
     {
         if sum_bounds(&first, &second).is_none() {
@@ -64,7 +69,8 @@ impl<A: Ruleset, B: Ruleset> Sum<A, B> {
 
     // The numbers of this sum, where they keep to the bounds.
     fn bounds(&self) -> Option<Bounds>
-        ensures { result ≡ sum_bounds (A.Ruleset.rules self.now.first) (B.Ruleset.rules self.now.second) }
+        ensures { result ≡ sum_bounds (A.Ruleset.rules self.now.first)
+            (B.Ruleset.rules self.now.second) }
     {
         sum_bounds(&self.first, &self.second)
     }
@@ -78,7 +84,8 @@ impl<A: Ruleset, B: Ruleset> Sum<A, B> {
 
     // The parts' codes, where both are legal and the parts fit.
     fn parts(&self, code: u64) -> Option<(u64, u64)>
-        ensures { result ≡ part_codes (A.Ruleset.rules self.now.first) (B.Ruleset.rules self.now.second) code }
+        ensures { result ≡ part_codes (A.Ruleset.rules self.now.first)
+            (B.Ruleset.rules self.now.second) code }
     {
         let base = self.second.limit();
         let first = code / base;
@@ -120,16 +127,26 @@ impl<A: Ruleset, B: Ruleset> Ruleset for Sum<A, B> {
         })
     }
 
+    // The parts are asked for their moves first: one that has a move is legal,
+    // so only the other is asked whether it is.
     fn successor(&self, side: Side, code: u64, index: usize) -> Option<u64> {
-        let (a, b) = self.parts(code)?;
-        let base = self.second.limit();
-        let in_first = self.first.count(side, a);
-        if index < in_first {
-            let next = self.first.successor(side, a, index)?;
-            Some(next * base + b)
-        } else {
-            let next = self.second.successor(side, b, index - in_first)?;
-            Some(a * base + next)
+        if !self.fits() {
+            return None;
         }
+        let base = self.second.limit();
+        let a = code / base;
+        let b = code % base;
+        if let Some(next) = self.first.successor(side, a, index) {
+            if !self.second.is_legal(b) {
+                return None;
+            }
+            return Some(next * base + b);
+        }
+        let past = index - self.first.count(side, a);
+        let next = self.second.successor(side, b, past)?;
+        if !self.first.is_legal(a) {
+            return None;
+        }
+        Some(a * base + next)
     }
 }

@@ -1,4 +1,5 @@
-// Positions of every board, a minus and sums, valued in one dictionary over each store: the node of each, and its outcome.
+// Positions of every board, a minus and sums, valued in one dictionary over each store:
+// the node of each, and its outcome.
 #![tactic(auto)]
 
 use demos::desk::{Detail, show_values};

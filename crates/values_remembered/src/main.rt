@@ -1,4 +1,5 @@
-// Positions of every board, a minus and sums, valued with a memory in one dictionary over each store: the node of each, its outcome, and the text of its canonical form.
+// Positions of every board, a minus and sums, valued with a memory in one dictionary over each
+// store: the node of each, its outcome, and the text of its canonical form.
 #![tactic(auto)]
 
 use demos::desk::{Detail, show_values};

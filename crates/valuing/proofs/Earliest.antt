@@ -22,7 +22,8 @@ use Rattle.calls.specs.Entering.{Entry, Enters, accepted}
 use Rattle.calls.specs.Positions.{Winning, order}
 use Rattle.calls.specs.Rows.{Rows, first, node}
 use Rattle.calls.proofs.Entering.{turn_grows}
-use Rattle.calls.proofs.Evaluating.{Valuing, valuing_none, valuing_more}
+use Rattle.calls.specs.Valuing.{Valuing}
+use Rattle.calls.proofs.Evaluating.{valuing_none, valuing_more}
 use Rattle.calls.proofs.Moving.{move_stops, move_told, same_winner}
 use Rattle.valuing.specs.declared.fault.ValueFault.{ValueFault}
 use Rattle.valuing.specs.declared.fault.ValueFault.TheVariants.{Illegal, Position}

@@ -6,7 +6,7 @@ use Rattle.games.specs.declared.side.Side.{Side}
 use Rattle.rulesets.specs.Rules.{Rules}
 use Rattle.calls.specs.Entering.{Entry}
 use Rattle.calls.specs.Rows.{Rows, ◌among◌}
-use Rattle.calls.proofs.Evaluating.{Valuing}
+use Rattle.calls.specs.Valuing.{Valuing}
 use Rattle.valuing.specs.declared.fault.ValueFault.{ValueFault}
 use Rattle.valuing.specs.Answers.{refusal}
 use Rattle.valuing.specs.Valued.{Entered}

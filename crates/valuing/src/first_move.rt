@@ -6,6 +6,7 @@ ghost use Rattle.calls.specs.Rows.{node};
 ghost use Rattle.valuing.specs.Answers.{answer_at};
 ghost use Rattle.valuing.specs.Moved.{Earliest, Moved, earlier_of, won_by};
 ghost use Rattle.valuing.specs.Stepping.{FirstMoveSteps};
+ghost use Rattle.valuing.specs.Sure.{GivenBack};
 
 use crate::fault::ValueFault;
 use crate::recall::{Nothing, Recall};
@@ -31,7 +32,8 @@ fn is_won(side: Side, outcome: Outcome) -> bool
 
 // Whether the side, moving second, wins the game of a node.
 fn wins<S: Store>(dictionary: &Dictionary<S>, side: Side, number: u16) -> bool
-    ensures { number < length dictionary.now.rows → result ≡ as_good side (node dictionary.now.rows number) 𝟎 }
+    ensures { number < length dictionary.now.rows
+        → result ≡ as_good side (node dictionary.now.rows number) 𝟎 }
 {
     dictionary
         .outcome(number)
@@ -45,7 +47,8 @@ fn earlier(found: Option<usize>, index: usize, wins: bool) -> Option<usize>
     found.or(wins.then_some(index))
 }
 
-// The index of the earliest first move that wins for the side, if there is one. All of the side's successors are valued.
+// The index of the earliest first move that wins for the side, if there is one.
+// All of the side's successors are valued.
 // The memory is lent for the call, and forgets what it held.
 pub fn first_move_with<S: Store, M: Recall, R: Ruleset>(
     dictionary: &mut Dictionary<S>,
@@ -54,9 +57,13 @@ pub fn first_move_with<S: Store, M: Recall, R: Ruleset>(
     side: Side,
     code: u64,
 ) -> Result<Option<usize>, ValueFault>
-    ensures moved { Moved (R.Ruleset.rules board.now) dictionary.old.room dictionary.old.rows side code (answer_at result) dictionary.new.rows }
-    ensures step { FirstMoveSteps (R.Ruleset.rules board.now) dictionary.old.room dictionary.old.rows side code (answer_at result) dictionary.new.rows }
+    ensures moved { Moved (R.Ruleset.rules board.now) dictionary.old.room dictionary.old.rows side
+        code (answer_at result) dictionary.new.rows }
+    ensures step { FirstMoveSteps (R.Ruleset.rules board.now) dictionary.old.room
+        dictionary.old.rows side code (answer_at result) dictionary.new.rows }
     ensures earliest { Earliest (R.Ruleset.rules board.now) side code (answer_at result) }
+    ensures memory { GivenBack M.Notes.holds (R.Ruleset.rules board.now) code memory.old
+        dictionary.new.rows memory.new }
     ensures room { dictionary.new.room ≡ dictionary.old.room }
 {
     if !board.is_legal(code) {
@@ -78,8 +85,10 @@ pub fn first_move<S: Store, R: Ruleset>(
     side: Side,
     code: u64,
 ) -> Result<Option<usize>, ValueFault>
-    ensures moved { Moved (R.Ruleset.rules board.now) dictionary.old.room dictionary.old.rows side code (answer_at result) dictionary.new.rows }
-    ensures step { FirstMoveSteps (R.Ruleset.rules board.now) dictionary.old.room dictionary.old.rows side code (answer_at result) dictionary.new.rows }
+    ensures moved { Moved (R.Ruleset.rules board.now) dictionary.old.room dictionary.old.rows side
+        code (answer_at result) dictionary.new.rows }
+    ensures step { FirstMoveSteps (R.Ruleset.rules board.now) dictionary.old.room
+        dictionary.old.rows side code (answer_at result) dictionary.new.rows }
     ensures earliest { Earliest (R.Ruleset.rules board.now) side code (answer_at result) }
     ensures room { dictionary.new.room ≡ dictionary.old.room }
 {

@@ -5,7 +5,7 @@ ghost use Rattle.nodesets.specs.Pairs.{by};
 ghost use Rattle.valuing.specs.Answers.{answer_at};
 ghost use Rattle.valuing.specs.Sides.{Turned};
 ghost use Rattle.valuing.specs.Stepping.{ValueSteps};
-ghost use Rattle.valuing.specs.Sure.{Sure};
+ghost use Rattle.valuing.specs.Sure.{GivenBack, Sure};
 ghost use Rattle.valuing.specs.Valued.{Entered, Valued};
 
 use crate::fault::ValueFault;
@@ -17,8 +17,10 @@ use rulesets::ruleset::Ruleset;
 use rulesets::successors::successors_of;
 use stores::store::Store;
 
-// Values the Left successors of a position, then the Right ones, and then seals their numbers.
-// A position that was valued before in the call is told from memory: valuing it again would tell the same and add nothing.
+// The node of a position. One that was valued before in the call is told from memory:
+// valuing it again would tell the same and add nothing.
+// Most are, so this is kept apart from the rest.
+#[inline]
 #[cycle(entering)]
 pub(crate) fn enter<S: Store, M: Recall, R: Ruleset>(
     dictionary: &mut Dictionary<S>,
@@ -26,14 +28,41 @@ pub(crate) fn enter<S: Store, M: Recall, R: Ruleset>(
     board: &R,
     code: u64,
 ) -> Result<u16, ValueFault>
-    ensures entered { Sure (R.Ruleset.rules board.now) dictionary.old.rows (M.Notes.holds memory.old) → Entered (R.Ruleset.rules board.now) dictionary.old.room dictionary.old.rows code (answer_at result) dictionary.new.rows }
-    ensures sure { Sure (R.Ruleset.rules board.now) dictionary.old.rows (M.Notes.holds memory.old) → Sure (R.Ruleset.rules board.now) dictionary.new.rows (M.Notes.holds memory.new) }
-    ensures small { Sure (R.Ruleset.rules board.now) dictionary.old.rows (M.Notes.holds memory.old) → IfOk result (λ node. node < 384) }
+    ensures entered { Sure (R.Ruleset.rules board.now) dictionary.old.rows
+        (M.Notes.holds memory.old)
+        → Entered (R.Ruleset.rules board.now) dictionary.old.room dictionary.old.rows code
+        (answer_at result) dictionary.new.rows }
+    ensures sure { Sure (R.Ruleset.rules board.now) dictionary.old.rows (M.Notes.holds memory.old)
+        → Sure (R.Ruleset.rules board.now) dictionary.new.rows (M.Notes.holds memory.new) }
+    ensures small { Sure (R.Ruleset.rules board.now) dictionary.old.rows (M.Notes.holds memory.old)
+        → IfOk result (λ node. node < 384) }
     ensures room { dictionary.new.room ≡ dictionary.old.room }
 {
     if let Some(known) = memory.recall(code) {
         return Ok(known);
     }
+    enter_anew(dictionary, memory, board, code)
+}
+
+// Values the Left successors of a position, then the Right ones, and then seals their numbers.
+#[inline(never)]
+#[cycle(entering)]
+fn enter_anew<S: Store, M: Recall, R: Ruleset>(
+    dictionary: &mut Dictionary<S>,
+    memory: &mut M,
+    board: &R,
+    code: u64,
+) -> Result<u16, ValueFault>
+    ensures entered { Sure (R.Ruleset.rules board.now) dictionary.old.rows
+        (M.Notes.holds memory.old)
+        → Entered (R.Ruleset.rules board.now) dictionary.old.room dictionary.old.rows code
+        (answer_at result) dictionary.new.rows }
+    ensures sure { Sure (R.Ruleset.rules board.now) dictionary.old.rows (M.Notes.holds memory.old)
+        → Sure (R.Ruleset.rules board.now) dictionary.new.rows (M.Notes.holds memory.new) }
+    ensures small { Sure (R.Ruleset.rules board.now) dictionary.old.rows (M.Notes.holds memory.old)
+        → IfOk result (λ node. node < 384) }
+    ensures room { dictionary.new.room ≡ dictionary.old.room }
+{
     let mut moves = Pair::default();
     enter_side(dictionary, memory, board, Side::Left, code, &mut moves)?;
     enter_side(dictionary, memory, board, Side::Right, code, &mut moves)?;
@@ -54,8 +83,12 @@ fn enter_side<S: Store, M: Recall, R: Ruleset>(
     code: u64,
     moves: &mut Pair,
 ) -> Result<(), ValueFault>
-    ensures turned { Sure (R.Ruleset.rules board.now) dictionary.old.rows (M.Notes.holds memory.old) → ((k : ℕ) → by moves.old side k ≡ false) → Turned (R.Ruleset.rules board.now) dictionary.old.room dictionary.old.rows side code (by moves.new side) dictionary.new.rows result }
-    ensures sure { Sure (R.Ruleset.rules board.now) dictionary.old.rows (M.Notes.holds memory.old) → Sure (R.Ruleset.rules board.now) dictionary.new.rows (M.Notes.holds memory.new) }
+    ensures turned { Sure (R.Ruleset.rules board.now) dictionary.old.rows (M.Notes.holds memory.old)
+        → ((k : ℕ) → by moves.old side k ≡ false)
+        → Turned (R.Ruleset.rules board.now) dictionary.old.room dictionary.old.rows side code
+        (by moves.new side) dictionary.new.rows result }
+    ensures sure { Sure (R.Ruleset.rules board.now) dictionary.old.rows (M.Notes.holds memory.old)
+        → Sure (R.Ruleset.rules board.now) dictionary.new.rows (M.Notes.holds memory.new) }
     ensures theirs { (k : ℕ) → by moves.new (other side) k ≡ by moves.old (other side) k }
     ensures room { dictionary.new.room ≡ dictionary.old.room }
 {
@@ -73,8 +106,12 @@ pub fn value_with<S: Store, M: Recall, R: Ruleset>(
     board: &R,
     code: u64,
 ) -> Result<u16, ValueFault>
-    ensures valued { Valued (R.Ruleset.rules board.now) dictionary.old.room dictionary.old.rows code (answer_at result) dictionary.new.rows }
-    ensures step { ValueSteps (R.Ruleset.rules board.now) dictionary.old.room dictionary.old.rows code (answer_at result) dictionary.new.rows }
+    ensures valued { Valued (R.Ruleset.rules board.now) dictionary.old.room dictionary.old.rows code
+        (answer_at result) dictionary.new.rows }
+    ensures step { ValueSteps (R.Ruleset.rules board.now) dictionary.old.room dictionary.old.rows
+        code (answer_at result) dictionary.new.rows }
+    ensures memory { GivenBack M.Notes.holds (R.Ruleset.rules board.now) code memory.old
+        dictionary.new.rows memory.new }
     ensures room { dictionary.new.room ≡ dictionary.old.room }
 {
     if !board.is_legal(code) {
@@ -90,8 +127,10 @@ pub fn value<S: Store, R: Ruleset>(
     board: &R,
     code: u64,
 ) -> Result<u16, ValueFault>
-    ensures valued { Valued (R.Ruleset.rules board.now) dictionary.old.room dictionary.old.rows code (answer_at result) dictionary.new.rows }
-    ensures step { ValueSteps (R.Ruleset.rules board.now) dictionary.old.room dictionary.old.rows code (answer_at result) dictionary.new.rows }
+    ensures valued { Valued (R.Ruleset.rules board.now) dictionary.old.room dictionary.old.rows code
+        (answer_at result) dictionary.new.rows }
+    ensures step { ValueSteps (R.Ruleset.rules board.now) dictionary.old.room dictionary.old.rows
+        code (answer_at result) dictionary.new.rows }
     ensures room { dictionary.new.room ≡ dictionary.old.room }
 {
     value_with(dictionary, &mut Nothing, board, code)

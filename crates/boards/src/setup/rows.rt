@@ -16,7 +16,8 @@ pub struct Rows {
 }
 
 impl Rows {
-    // The rows that the bytes spell; `None` where they are uneven or have too many squares.
+    // The rows that the bytes spell; `None` where they spell none,
+    // are uneven or have too many squares.
     pub fn read(items: &[u8]) -> Option<Rows>
         ensures { result ≡ rows_read items.now }
     {
@@ -88,7 +89,8 @@ impl Begun {
         })
     }
 
-    // How many squares the row has that ends: some, and as many as the row before it, if there is one.
+    // How many squares the row has that ends: some, and as many as the row before it,
+    // if there is one.
     fn length(self) -> Option<usize>
         ensures { result ≡ row_length self }
     {

@@ -1,16 +1,15 @@
 // Where each byte of a text leads.
-ghost use Rattle.std.specs.Prelude.{◌≡◌, [], ◌∷◌, ◌++◌, length, MatchResult};
+ghost use Rattle.std.specs.Prelude.{◌≡◌, ◌+◌, ◌<◌, [], ◌∷◌, ◌++◌, length};
 ghost use Rattle.std.specs.ControlFlow.{MatchControlFlow};
 ghost use Rattle.games.specs.Form.{Form as Game};
 ghost use Rattle.games.specs.Text.{close_mark};
-ghost use Rattle.calls.specs.Nests.{Stands, Stepped};
+ghost use Rattle.calls.specs.Nests.{Stands, StaysUnlessOn, Stepped, Unmoved};
 ghost use Rattle.calls.specs.TextSpots.{open_at, side_at};
 ghost use Rattle.calls.specs.declared.nest.TextSpot.TheVariants.{After, Form, Start};
-ghost use Rattle.calls.specs.declared.fault.TextFault.TheVariants.{TooDeep};
 ghost use Rattle.games.specs.declared.side.Side.TheVariants.{Left, Right};
-ghost use Rattle.games.proofs.Reader.{State, wants, done, next};
+ghost use Rattle.games.specs.Reader.{State, wants, done, next};
 
-use super::{Nest, TextSpot};
+use super::{MOST_OPEN, Nest, TextSpot};
 use crate::fault::TextFault;
 use arrayvec::ArrayVec;
 use games::side::Side;
@@ -29,15 +28,21 @@ impl Default for Nest {
 }
 
 impl Nest {
-    // Takes the byte at the place: goes on where a reader then stands, or ends behind the last bracket.
+    // Takes the byte at the place: goes on where a reader then stands,
+    // or ends behind the last bracket.
+    // Where it does not go on, it stands where it stood.
     pub fn take(&mut self, byte: u8, place: usize) -> Result<ControlFlow<()>, TextFault>
-        ensures { (q : State) → Stands self.old q → Stepped q self.new byte place result }
+        ensures steps { (q : State) → Stands self.old q → Stepped q self.new byte place result }
+        ensures stays { StaysUnlessOn self.old self.new result }
     {
         match (self.spot, byte) {
-            (TextSpot::Form, b'{') => self.open(place)?,
+            (TextSpot::Form | TextSpot::Start(_), b'{') if self.depth() == MOST_OPEN => {
+                return Err(TextFault::TooDeep(place));
+            }
+            (TextSpot::Form, b'{') => self.open(),
             (TextSpot::Start(side), b'{') => {
                 self.wait(side);
-                self.open(place)?;
+                self.open();
             }
             (TextSpot::After(side), b',') => self.wait(side),
             (TextSpot::Start(Side::Left) | TextSpot::After(Side::Left), b'|') => {
@@ -51,16 +56,24 @@ impl Nest {
         Ok(ControlFlow::Continue(()))
     }
 
-    // A bracket opens at the place, where a form is to come.
-    fn open(&mut self, place: usize) -> Result<(), TextFault>
-        requires { self.old.spot ≡ Form }
-        ensures { MatchResult result (λ _. (self.new.spot ≡ Start Left) × (self.new.outside.items ≡ self.old.outside.items)) (λ f. (f ≡ TooDeep place) × (length self.old.outside.items ≡ 96)) }
+    // How many brackets are open.
+    fn depth(&self) -> usize
+        ensures { result ≡ open_at self.now.spot + length self.now.outside.items }
     {
-        if self.outside.is_full() {
-            return Err(TextFault::TooDeep(place));
+        match self.spot {
+            TextSpot::Form => self.outside.len(),
+            TextSpot::Start(_) | TextSpot::After(_) => self.outside.len() + 1,
         }
+    }
+
+    // A bracket opens, where a form is to come.
+    fn open(&mut self)
+        requires spot { self.old.spot ≡ Form }
+        requires room { length self.old.outside.items < 96 }
+        ensures spot { self.new.spot ≡ Start Left }
+        ensures outside { self.new.outside.items ≡ self.old.outside.items }
+    {
         self.spot = TextSpot::Start(Side::Left);
-        Ok(())
     }
 
     // The bracket that is open waits for an option of the side.
@@ -76,7 +89,10 @@ impl Nest {
     // The innermost bracket closes: its form is an option of the next one, or the whole.
     fn close(&mut self) -> ControlFlow<()>
         requires { side_at self.old.spot ≡ Some Right }
-        ensures { (q : State) → Stands self.old q → MatchControlFlow result (λ _. Stands self.new (next q close_mark)) (λ _. (g : Game) × (next q close_mark ≡ done g)) }
+        ensures on { (q : State) → Stands self.old q
+            → MatchControlFlow result (λ _. Stands self.new (next q close_mark))
+            (λ _. (g : Game) × (next q close_mark ≡ done g)) }
+        ensures stays { MatchControlFlow result (λ _. Unit {0}) (λ _. Unmoved self.old self.new) }
     {
         let Some(spot) = self.outside.pop() else {
             return ControlFlow::Break(());

@@ -14,14 +14,16 @@ use rulesets::ruleset::Ruleset;
 impl Board {
     // The empty cells, when the code is legal.
     fn empty(&self, code: u64) -> Option<u64>
-        ensures { Told (legal self.now.rows self.now.columns code) (free (self.now.rows * self.now.columns) code) result }
+        ensures { Told (legal self.now.rows self.now.columns code)
+            (free (self.now.rows * self.now.columns) code) result }
     {
         self.is_legal(code).then_some(self.full & !code)
     }
 
     // The first cells of the dominoes that the side can put, when the code is legal.
     fn openings(&self, side: Side, code: u64) -> Option<u64>
-        ensures { Told (legal self.now.rows self.now.columns code) (fits side self.now.rows self.now.columns code) result }
+        ensures { Told (legal self.now.rows self.now.columns code)
+            (fits side self.now.rows self.now.columns code) result }
     {
         let empty = self.empty(code)?;
         let openings = match side {

@@ -63,24 +63,26 @@ impl Picture {
         flood
     }
 
-    // Goes on until a round goes along no further edge.
+    // Goes on until no edge is dry, or a round goes along no further one.
     fn run(&self, mut flood: Flood) -> Flood
         requires { flood.dry < 2 ^ self.now.count }
         ensures { Flooded (edges_of self.now) flood.wet flood.dry result.wet result.dry }
     {
-        loop {
+        while flood.dry != 0 {
             let before = flood.dry;
             flood = self.round(flood);
             if flood.dry == before {
                 return flood;
             }
         }
+        flood
     }
 
     // The edges of the code that are joined to the ground; the others have fallen.
     pub fn fall(&self, code: u64) -> u64
         ensures value { result ≡ fall (edges_of self.now) (bit code) }
-        ensures joined { (i : ℕ) → Decides (bit result i) (StaysUp (edges_of self.now) (bit code) i) }
+        ensures joined { (i : ℕ) → Decides (bit result i)
+            (StaysUp (edges_of self.now) (bit code) i) }
     {
         let standing = code & ((1 << self.count) - 1);
         let end = self.run(Flood {
@@ -91,10 +93,12 @@ impl Picture {
     }
 
     // What stands after an edge of the code is cut, and `None` for a code that is not legal.
-    // The flood over the other edges goes on along this one: an edge that is dry even then makes the code illegal.
+    // The flood over the other edges goes on along this one:
+    // an edge that is dry even then makes the code illegal.
     pub(super) fn cut(&self, code: u64, place: u32) -> Option<u64>
         requires { bit code place ≡ true }
-        ensures { result ≡ (if legal (edges_of self.now) code then Some (cut (edges_of self.now) code place) else None) }
+        ensures { result ≡ (if legal (edges_of self.now) code
+            then Some (cut (edges_of self.now) code place) else None) }
     {
         if code >= 1 << self.count {
             return None;
@@ -105,10 +109,12 @@ impl Picture {
             wet: GROUND,
             dry: others,
         });
-        let whole = self.run(Flood {
+        let all = Flood {
             wet: after.wet,
             dry: after.dry | edge,
-        });
+        };
+        let along = self.look(all, place);
+        let whole = self.run(along);
         (whole.dry == 0).then_some(others ^ after.dry)
     }
 }

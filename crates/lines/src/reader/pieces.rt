@@ -11,7 +11,8 @@ use games::side::Side;
 
 // What is read as a whole: a side, a board, a subject, or the text of a form.
 pub trait Piece<'a>: Copy {
-    // the symbol of the machine where it is to come, and what it tells of its text, by the place where that begins
+    // the symbol of the machine where it is to come, and what it tells of its text,
+    // by the place where that begins
     ghost symbol: { Symbol };
 
     ghost tells: { ℕ → Self → List ℕ → Type 0 };
@@ -26,7 +27,8 @@ pub trait Piece<'a>: Copy {
 impl<'a> Reader<'a> {
     // Takes a piece and the closing bracket.
     pub(super) fn closed<P: Piece<'a>>(&mut self) -> Result<P, TextFault>
-        ensures { Reads self.old self.new (P.symbol ∷ just 41 ∷ []) (ClosedRead P.tells self.old.at) result }
+        ensures { Reads self.old self.new (P.symbol ∷ just 41 ∷ []) (ClosedRead P.tells self.old.at)
+            result }
     {
         let piece = P::read(self)?;
         self.expect(b')')?;
@@ -35,7 +37,8 @@ impl<'a> Reader<'a> {
 
     // Takes two pieces with a blank between them, and the closing bracket.
     pub(super) fn pair<P: Piece<'a>, Q: Piece<'a>>(&mut self) -> Result<(P, Q), TextFault>
-        ensures { Reads self.old self.new (P.symbol ∷ just 32 ∷ Q.symbol ∷ just 41 ∷ []) (PairRead P.tells Q.tells self.old.at) result }
+        ensures { Reads self.old self.new (P.symbol ∷ just 32 ∷ Q.symbol ∷ just 41 ∷ [])
+            (PairRead P.tells Q.tells self.old.at) result }
     {
         let first = P::read(self)?;
         self.expect(b' ')?;

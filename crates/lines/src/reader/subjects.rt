@@ -12,9 +12,11 @@ use crate::words::Heading;
 use calls::fault::TextFault;
 
 impl<'a> Reader<'a> {
-    // The items of a board of this kind, whose opening bracket stands at the place, and the closing bracket.
+    // The items of a board of this kind, whose opening bracket stands at the place,
+    // and the closing bracket.
     fn items(&mut self, place: usize, kind: Kind) -> Result<Board<'a>, TextFault>
-        ensures { Reads self.old self.new (symbols (kind_spot kind)) (BoardRest place kind self.old.at) result }
+        ensures { Reads self.old self.new (symbols (kind_spot kind))
+            (BoardRest place kind self.old.at) result }
     {
         let start = self.at;
         self.walk(kind.first_spot())?;
@@ -24,7 +26,8 @@ impl<'a> Reader<'a> {
 
     // Behind the heading of a subject whose opening bracket stands at the place.
     fn content(&mut self, place: usize, heading: Heading) -> Result<Content<'a>, TextFault>
-        ensures { Reads self.old self.new (heading_rest heading) (ContentRest place heading self.old.at) result }
+        ensures { Reads self.old self.new (heading_rest heading)
+            (ContentRest place heading self.old.at) result }
     {
         match heading {
             Heading::Minus => Ok(Content::Minus(self.closed()?)),

@@ -34,7 +34,8 @@ impl NodeSet {
 
     // The node goes in if `on`.
     pub fn insert_if(&mut self, node: usize, on: bool)
-        ensures { (j : ℕ) → has self.new j ≡ (((j == node && nat_lt j 384) && on) || has self.old j) }
+        ensures { (j : ℕ) → has self.new j
+            ≡ (((j == node && nat_lt j 384) && on) || has self.old j) }
     {
         if on {
             self.insert(node);
@@ -91,7 +92,8 @@ impl NodeSet {
 
     // The lowest node that is in both sets.
     pub fn common(&self, other: &NodeSet) -> Option<usize>
-        ensures { MatchOption result (Meet (has self.now) (has other.now) → ⊥) (λ k. Lowest (has self.now) (has other.now) k) }
+        ensures { MatchOption result (Meet (has self.now) (has other.now) → ⊥)
+            (λ k. Lowest (has self.now) (has other.now) k) }
     {
         self.intersection(other).next_inside(0)
     }
@@ -135,7 +137,8 @@ impl NodeSet {
 
     // The lowest number from `from` on whose bit is not that of the mask.
     fn next(&self, from: usize, mask: u64) -> Option<usize>
-        ensures { Next (λ k. cond (has self.now k) (not (bit mask (k % 64))) (bit mask (k % 64))) from result }
+        ensures { Next (λ k. cond (has self.now k) (not (bit mask (k % 64))) (bit mask (k % 64)))
+            from result }
     {
         let mut k = from;
         while k < MOST_NODES {

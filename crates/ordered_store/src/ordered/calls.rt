@@ -31,7 +31,8 @@ impl Store for OrderedList {
         self.list.option(side, node, index)
     }
 
-    // No number is below 0, so the place of the row with 0 is that of the lowest number with the same row.
+    // No number is below 0, so the place of the row with 0 is that of the lowest number with the
+    // same row.
     fn find(&self, row: &Row) -> Option<u16> {
         let place = self.place(row, 0);
         let node = *self.order.get(place)?;

@@ -24,7 +24,8 @@ impl OrderedList {
 
     // Whether the row of `node` comes before a row with a number.
     fn comes_first(&self, node: u16, row: &Row, number: usize) -> bool
-        ensures { result ≡ is_lt (entry_order (row_at (rows_in self.now.list) node) node (lists_of row.now) number) }
+        ensures { result ≡ is_lt (entry_order (row_at (rows_in self.now.list) node) node
+            (lists_of row.now) number) }
     {
         self.list
             .order(node, row)
@@ -34,7 +35,8 @@ impl OrderedList {
 
     // The place in the order where a row with a number belongs.
     pub(super) fn place(&self, row: &Row, number: usize) -> usize
-        ensures { Belongs (rows_in self.now.list) self.now.order.items (lists_of row.now) number result }
+        ensures { Belongs (rows_in self.now.list) self.now.order.items (lists_of row.now) number
+            result }
     {
         self.order
             .partition_point(|node| self.comes_first(*node, row, number))

@@ -1,7 +1,7 @@
 // How brackets are opened and closed.
 ghost use Rattle.std.specs.Prelude.{◌≡◌, ℕ, ◌<◌, List, [], ◌∷◌, length};
-ghost use Rattle.calls.proofs.Bracketed.{brackets, put_outside};
-ghost use Rattle.games.proofs.Reader.{Bracket, finish};
+ghost use Rattle.games.specs.Reader.{brackets, Bracket, finish};
+ghost use Rattle.calls.specs.Brackets.{put_outside};
 ghost use Rattle.games.specs.Form.{Form};
 ghost use Rattle.games.specs.Numbered.{Lists};
 ghost use Rattle.reading.specs.declared.frames.Frame.{Frame as FrameOf};
@@ -39,7 +39,8 @@ impl<T: Options> Frames<T> {
     // A bracket more.
     pub(crate) fn open(&mut self)
         requires { length (stack_of self.old) < 96 }
-        ensures { (f : FrameOf T) × Fresh T.Options.keeps f × (stack_of self.new ≡ f ∷ stack_of self.old) }
+        ensures { (f : FrameOf T) × Fresh T.Options.keeps f
+            × (stack_of self.new ≡ f ∷ stack_of self.old) }
     {
         self.items.push(Frame::default());
     }
@@ -63,7 +64,10 @@ impl<T: Options> Frames<T> {
 
     // A node is an option of the innermost bracket, if one is open.
     pub(crate) fn put(&mut self, node: u16)
-        ensures { node < 384 → (g : Form) (bs : List Bracket) (ls : List Lists) → Holds T.Options.keeps (stack_of self.old) bs ls → Holds T.Options.keeps (stack_of self.new) (brackets (finish g bs)) (put_outside node bs ls) }
+        ensures { node < 384 → (g : Form) (bs : List Bracket) (ls : List Lists)
+            → Holds T.Options.keeps (stack_of self.old) bs ls
+            → Holds T.Options.keeps (stack_of self.new) (brackets (finish g bs))
+            (put_outside node bs ls) }
     {
         let top = self.items.len().saturating_sub(1);
         if let Some(frame) = self.items.get_mut(top) {

@@ -12,7 +12,8 @@ use nodesets::pair::Pair;
 impl Game<'_> {
     // The node that equals the game, where there is one.
     pub fn equal(&self) -> Option<usize>
-        ensures { EqualAt result (links self.now.nodes.now) (vec_len self.now.nodes.now.rows) (by self.now.moves) }
+        ensures { EqualAt result (links self.now.nodes.now) (vec_len self.now.nodes.now.rows)
+            (by self.now.moves) }
     {
         self.worse.left.common(&self.worse.right)
     }
@@ -21,9 +22,11 @@ impl Game<'_> {
     fn bypass_at(&mut self, side: Side, a: usize)
         requires { a < vec_len self.old.nodes.now.rows }
         ensures same { SameValue self.old self.new }
-        ensures reduced { Reduced (links self.old.nodes.now) side (by self.old.moves) (by self.new.moves) }
+        ensures reduced { Reduced (links self.old.nodes.now) side (by self.old.moves)
+            (by self.new.moves) }
         ensures above { (k : ℕ) → a < k → by self.new.moves side k ≡ by self.old.moves side k }
-        ensures stays { by self.new.moves side a ≡ true → Stays (links self.old.nodes.now) side (by self.old.worse) a }
+        ensures stays { by self.new.moves side a ≡ true
+            → Stays (links self.old.nodes.now) side (by self.old.worse) a }
     {
         if !self.moves.of(side).contains(a) {
             return;
@@ -43,8 +46,10 @@ impl Game<'_> {
     // Each reversible option of the side gives way, from the highest node down.
     fn bypass(&mut self, side: Side)
         ensures same { SameValue self.old self.new }
-        ensures reduced { Reduced (links self.old.nodes.now) side (by self.old.moves) (by self.new.moves) }
-        ensures stays { (k : ℕ) → by self.new.moves side k ≡ true → Stays (links self.old.nodes.now) side (by self.old.worse) k }
+        ensures reduced { Reduced (links self.old.nodes.now) side (by self.old.moves)
+            (by self.new.moves) }
+        ensures stays { (k : ℕ) → by self.new.moves side k ≡ true
+            → Stays (links self.old.nodes.now) side (by self.old.worse) k }
     {
         for a in (0..self.nodes.rows.len()).rev() {
             self.bypass_at(side, a);
@@ -55,7 +60,8 @@ impl Game<'_> {
     fn undominate_at(&mut self, side: Side, a: usize)
         requires { a < vec_len self.old.nodes.now.rows }
         ensures same { SameValue self.old self.new }
-        ensures cleared { Cleared (links self.old.nodes.now) side a (by self.old.moves) (by self.new.moves) }
+        ensures cleared { Cleared (links self.old.nodes.now) side a (by self.old.moves)
+            (by self.new.moves) }
     {
         let mut own = *self.moves.of(side);
         if own.contains(a) {
@@ -68,7 +74,8 @@ impl Game<'_> {
     // The dominated options of the side go.
     fn undominate(&mut self, side: Side)
         ensures same { SameValue self.old self.new }
-        ensures undominated { Undominated (links self.old.nodes.now) side (vec_len self.old.nodes.now.rows) (by self.old.moves) (by self.new.moves) }
+        ensures undominated { Undominated (links self.old.nodes.now) side
+            (vec_len self.old.nodes.now.rows) (by self.old.moves) (by self.new.moves) }
     {
         for a in 0..self.nodes.rows.len() {
             self.undominate_at(side, a);

@@ -34,7 +34,8 @@ impl Nodes {
         requires room { vec_len self.old.rows < 384 }
         requires within { Within (vec_len self.old.rows) (by form.now) }
         requires canonical { Canonical (game (links self.old) (by form.now)) }
-        requires fresh { (k : ℕ) → k < vec_len self.old.rows → ¬ (game (links self.old) (by form.now) ≈ node (links self.old) k) }
+        requires fresh { (k : ℕ) → k < vec_len self.old.rows
+            → ¬ (game (links self.old) (by form.now) ≈ node (links self.old) k) }
         ensures { links self.new ≡ links self.old ++ (by form.now ∷ []) }
     {
         let number = self.rows.len();
@@ -49,10 +50,12 @@ impl Nodes {
     }
 }
 
-// Each node learns that it is as good as a new one where the new one is as good as it for the other side.
+// Each node learns that it is as good as a new one where the new one is as good as it for the other
+// side.
 fn rank_under(rows: &mut Vec<Row>, worse: &Pair)
     ensures capacity { vec_capacity rows.new ≡ vec_capacity rows.old }
-    ensures ranks { Ranking rows.old.items rows.new.items (by worse.now) (vec_len rows.old) (vec_len rows.old) }
+    ensures ranks { Ranking rows.old.items rows.new.items (by worse.now) (vec_len rows.old)
+        (vec_len rows.old) }
 {
     let number = rows.len();
     for i in 0..number {

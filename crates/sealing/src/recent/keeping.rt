@@ -11,12 +11,15 @@ use std::hash::{BuildHasher, BuildHasherDefault, FoldHasher};
 // How many pairs are remembered at most.
 const PLACES: usize = 4096;
 
-// The place of a pair.
+// The place of a pair. Its sets are hashed each by itself, which a processor does at the same time;
+// one is turned, so that the sides count.
 fn place(moves: &Pair) -> usize
     ensures { result < 4096 }
 {
     let hasher = BuildHasherDefault::<FoldHasher>::default();
-    (hasher.hash_one(moves) % PLACES as u64) as usize
+    let left = hasher.hash_one(&moves.left);
+    let right = hasher.hash_one(&moves.right).rotate_left(32);
+    ((left ^ right) % PLACES as u64) as usize
 }
 
 impl Recent {
@@ -38,7 +41,8 @@ impl Recent {
 
     // The node is noted with the pair; what stood at its place is forgotten.
     pub fn note(&mut self, moves: &Pair, node: u16)
-        ensures { (o : Sets) (n : ℕ) → Remembers self.new o n → (Same (by moves.now) o × (n ≡ node)) ⊎ Remembers self.old o n }
+        ensures { (o : Sets) (n : ℕ) → Remembers self.new o n → (Same (by moves.now) o × (n ≡ node))
+            ⊎ Remembers self.old o n }
     {
         let place = place(moves);
         self.entries[place] = Some(Entry {

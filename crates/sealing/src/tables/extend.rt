@@ -37,7 +37,8 @@ impl Tables {
         number
     }
 
-    // The new row that the two sets seal to, if they do, becomes the last node while there is room; answers its number.
+    // The new row that the two sets seal to, if they do, becomes the last node while there is room;
+    // answers its number.
     pub fn extend(&mut self, moves: &Pair) -> Option<usize>
         ensures { Extended result self.old self.new (by moves.now) }
     {

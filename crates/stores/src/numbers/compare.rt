@@ -27,7 +27,8 @@ impl<const MOST: usize> Eq for Numbers<MOST> {
 impl<const MOST: usize> PartialOrd for Numbers<MOST> {
     ghost partial_cmp = { as_partial_cmp (on numbers_of (slice_cmp nat_cmp)) };
 
-    ghost laws = { partial_order_from_own_ties (Prim.search (comparing, rules)) (Prim.search (comparing, rules)) };
+    ghost laws = { partial_order_from_own_ties (Prim.search (comparing, rules))
+        (Prim.search (comparing, rules)) };
 
     fn partial_cmp(&self, other: &Numbers<MOST>) -> Option<Ordering> {
         Some(self.cmp(other))

@@ -17,7 +17,8 @@ impl RowList {
         self.rows.get(usize::from(node)).unwrap_or(&Row::default()) == row
     }
 
-    // Whether the row of `node` is earlier than another or later, by their Left lists and then by their Right lists.
+    // Whether the row of `node` is earlier than another or later,
+    // by their Left lists and then by their Right lists.
     pub fn order(&self, node: u16, row: &Row) -> Ordering
         ensures { result ≡ row_order (row_at (rows_in self.now) node) (lists_of row.now) }
     {

@@ -65,8 +65,10 @@ impl RowList {
 
     // Takes a row as the last, and answers its number.
     pub fn append(&mut self, row: Row) -> Result<u16, StoreFault>
-        ensures answer { result ≡ append_answer (rows_in self.old) (room_of self.old) (lists_of row) }
-        ensures rows { rows_in self.new ≡ append_rows (rows_in self.old) (room_of self.old) (lists_of row) }
+        ensures answer { result ≡ append_answer (rows_in self.old) (room_of self.old)
+            (lists_of row) }
+        ensures rows { rows_in self.new ≡ append_rows (rows_in self.old) (room_of self.old)
+            (lists_of row) }
         ensures capacity { room_of self.new ≡ room_of self.old }
     {
         let count = self.rows.len();

@@ -48,7 +48,8 @@ impl Lineup {
         }
     }
 
-    // The cell into which the side's piece in this cell moves: the one ahead where that is empty, else the one beyond.
+    // The cell into which the side's piece in this cell moves:
+    // the one ahead where that is empty, else the one beyond.
     fn target(&self, side: Side, cell: u32) -> u32
         requires { can_move self.now.cells self.now.code side cell ≡ true }
         ensures { result ≡ target self.now.cells self.now.code side cell }

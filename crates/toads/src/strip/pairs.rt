@@ -16,7 +16,8 @@ impl Lineup {
         Cell::try_from((self.code >> (2 * cell)) & 3).unwrap()
     }
 
-    // One pass from the left: a toad counts with no cell before it, an empty cell with the toads, a frog with toads and empty cells.
+    // One pass from the left: a toad counts with no cell before it, an empty cell with the toads,
+    // a frog with toads and empty cells.
     pub(super) fn pairs(&self) -> usize
         ensures { result ≡ pairs (cells self.now.cells self.now.code) }
     {

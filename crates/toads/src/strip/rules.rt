@@ -28,7 +28,8 @@ impl Strip {
 
     // What the cells hold, when the code is legal.
     fn lineup(&self, code: u64) -> Option<Lineup>
-        ensures { MatchOption result (legal self.now.cells code ≡ false) (λ l. (l.cells ≡ self.now.cells) × (l.code ≡ code)) }
+        ensures { MatchOption result (legal self.now.cells code ≡ false)
+            (λ l. (l.cells ≡ self.now.cells) × (l.code ≡ code)) }
     {
         if !self.is_legal(code) {
             return None;

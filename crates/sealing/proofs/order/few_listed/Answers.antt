@@ -2,7 +2,7 @@
 use Rattle.std.proofs.Common.{◌≡◌, ℕ, ◌+◌, ◌<◌, true, List, [], ◌∷◌, ◌++◌, length, take, filter, get_or, sym, ap, ◌∙◌, arith, rules}
 use Rattle.std.proofs.lemmas.List.{length_push, take_all}
 use Rattle.nodesets.specs.Sets.{has}
-use Rattle.sealing.proofs.Writing.{kept_with, kept_without, count_with, count_first}
+use Rattle.sealing.proofs.Counted.{kept_with, kept_without, count_with, count_first}
 use Rattle.sealing.proofs.order.few_listed.Goals as goal
 use Rattle.sealing.proofs.order.few_listed.Goals.{then-contains+in_ok-ok, else-contains}
 

@@ -6,7 +6,7 @@ use Rattle.rulesets.proofs.Positions.{left_none, left_some}
 use Rattle.calls.specs.Positions.{FirstMoves}
 use Rattle.valuing.specs.Answers.{answer_at}
 use Rattle.valuing.specs.Moved.{Earliest, Moved}
-use Rattle.valuing.specs.Sure.{Sure}
+use Rattle.valuing.specs.Sure.{Sure, untouched, renewed}
 use Rattle.valuing.proofs.Noted.{sure_empty}
 use Rattle.valuing.proofs.Earliest.{broke, no_earliest, one_tried, tried, tried_earliest, tries}
 use Rattle.valuing.proofs.Stepped.{first_move_steps}
@@ -17,7 +17,7 @@ returns-then-not-is_legal g c =
     let R = g.R.Ruleset.rules c.args.board.now in
     let d = c.args.dictionary.now in
     let moved : Moved R d.room d.rows c.args.side c.args.code _ d.rows = record { entries = []; holds = FirstMoves.illegal (search rules) } in
-    record { moved = moved; step = first_move_steps R (g.met.R.Ruleset.lawful c.args.board.now) d.room d.rows c.args.side c.args.code _ d.rows moved; earliest = tt; room = refl }
+    record { moved = moved; step = first_move_steps R (g.met.R.Ruleset.lawful c.args.board.now) d.room d.rows c.args.side c.args.code _ d.rows moved; earliest = tt; memory = untouched (search rules); room = refl }
 
 pub loop-index-init : goal.loop-index-init
 loop-index-init g c =
@@ -47,6 +47,7 @@ returns-in_err-number g c =
       moved = moved;
       step = first_move_steps R l d₀.room d₀.rows c.args.side c.args.code _ c.enter.new.dictionary.rows moved;
       earliest = subst (λ y. Earliest R c.args.side c.args.code (answer_at y)) (sym e) (no_earliest R c.args.side c.args.code c.in_err-number.field-0.0);
+      memory = renewed (search rules) (c.in_err-number.ensures.sure c.loop-index.invariant.trying.kept);
       room = c.in_err-number.ensures.room ∙ c.loop-index.invariant.trying.room;
     }
 
@@ -83,5 +84,6 @@ returns g c =
       step = first_move_steps R l d₀.room d₀.rows c.args.side c.args.code _ d.rows moved;
       earliest = tried_earliest R l c.args.side c.args.code i c.loop-index.winning d₀.room d.room d₀.rows d.rows
           (Sure R d.rows (g.M.Notes.holds c.loop-index.memory)) c.loop-index.invariant.trying;
+      memory = renewed (search rules) c.loop-index.invariant.trying.kept;
       room = c.loop-index.invariant.trying.room;
     }

@@ -23,16 +23,16 @@ enter-returns-in-Some-clause-entered g t c h =
     let R = g.R.Ruleset.rules c.args.board.now in
     told_again R c.args.dictionary.now.room c.args.dictionary.now.rows (g.M.Notes.holds c.args.memory.now) c.args.code c.in-Some.known h c.in-Some.ensures
 
-pub enter-returns-in_err-enter_side-clause-entered : goal.enter-returns-in_err-enter_side-clause-entered
-enter-returns-in_err-enter_side-clause-entered g t c h =
+pub enter_anew-returns-in_err-enter_side-clause-entered : goal.enter_anew-returns-in_err-enter_side-clause-entered
+enter_anew-returns-in_err-enter_side-clause-entered g t c h =
     let R = g.R.Ruleset.rules c.args.board.now in
     let l = g.met.R.Ruleset.lawful c.args.board.now in
     let d₀ = c.args.dictionary.now in
     let e : c.from_residual.result ≡ Err c.in_err-enter_side.field-0.0 = search rules in
     subst (λ y. Entered R d₀.room d₀.rows c.args.code (answer_at y) c.enter_side.new.dictionary.rows) (sym e) (left_stops R l d₀.room c.args.code (c.in_err-enter_side.ensures.turned h (c.default-moves.ensures Left)))
 
-pub enter-returns-in_err-enter_side-2-clause-entered : goal.enter-returns-in_err-enter_side-2-clause-entered
-enter-returns-in_err-enter_side-2-clause-entered g t c h =
+pub enter_anew-returns-in_err-enter_side-2-clause-entered : goal.enter_anew-returns-in_err-enter_side-2-clause-entered
+enter_anew-returns-in_err-enter_side-2-clause-entered g t c h =
     let R = g.R.Ruleset.rules c.args.board.now in
     let l = g.met.R.Ruleset.lawful c.args.board.now in
     let d₀ = c.args.dictionary.now in
@@ -48,11 +48,11 @@ enter-returns-in_err-enter_side-2-clause-entered g t c h =
     subst (λ y. Entered R d₀.room d₀.rows c.args.code (answer_at y) d₂.rows) (sym e)
     (right_stops R l d₀.room c.args.code lefts (subst (λ z. Turned R z d₁.rows Right c.args.code (o Right) d₂.rows (Err c.in_err-enter_side-2.field-0.0)) room₁ (c.in_err-enter_side-2.ensures.turned sure none)))
 
-pub enter-returns-in_err-enter_side-2-clause-sure : goal.enter-returns-in_err-enter_side-2-clause-sure
-enter-returns-in_err-enter_side-2-clause-sure g t c h = c.enter_side-2.ensures.sure (c.enter_side.ensures.sure h)
+pub enter_anew-returns-in_err-enter_side-2-clause-sure : goal.enter_anew-returns-in_err-enter_side-2-clause-sure
+enter_anew-returns-in_err-enter_side-2-clause-sure g t c h = c.enter_side-2.ensures.sure (c.enter_side.ensures.sure h)
 
-pub enter-returns-in_err-node-clause-entered : goal.enter-returns-in_err-node-clause-entered
-enter-returns-in_err-node-clause-entered g t c h =
+pub enter_anew-returns-in_err-node-clause-entered : goal.enter_anew-returns-in_err-node-clause-entered
+enter_anew-returns-in_err-node-clause-entered g t c h =
     let R = g.R.Ruleset.rules c.args.board.now in
     let l = g.met.R.Ruleset.lawful c.args.board.now in
     let d₀ = c.args.dictionary.now in
@@ -72,8 +72,8 @@ enter-returns-in_err-node-clause-entered g t c h =
     subst (λ y. Entered R d₀.room d₀.rows c.args.code (answer_at y) after.rows) (sym e)
     (ends_refused R l d₀.room c.args.code (by c.enter_side.new.moves Left) (o Right) d₀.rows d₁.rows d₂.rows after.rows lefts rights o (λ k. c.enter_side-2.ensures.theirs k) (λ k. refl) c.seal.result seals fault was)
 
-pub enter-returns-in_err-node-clause-sure : goal.enter-returns-in_err-node-clause-sure
-enter-returns-in_err-node-clause-sure g t c h =
+pub enter_anew-returns-in_err-node-clause-sure : goal.enter_anew-returns-in_err-node-clause-sure
+enter_anew-returns-in_err-node-clause-sure g t c h =
     let R = g.R.Ruleset.rules c.args.board.now in
     let l = g.met.R.Ruleset.lawful c.args.board.now in
     let d₀ = c.args.dictionary.now in
@@ -91,8 +91,8 @@ enter-returns-in_err-node-clause-sure g t c h =
     ends_sure R l d₀.room c.args.code (by c.enter_side.new.moves Left) (o Right) d₀.rows d₁.rows d₂.rows after.rows lefts rights o (λ k. c.enter_side-2.ensures.theirs k) (λ k. refl) c.seal.result seals
     (g.M.Notes.holds c.enter_side-2.new.memory) (c.enter_side-2.ensures.sure sure)
 
-pub enter-returns-clause-entered : goal.enter-returns-clause-entered
-enter-returns-clause-entered g t c h =
+pub enter_anew-returns-clause-entered : goal.enter_anew-returns-clause-entered
+enter_anew-returns-clause-entered g t c h =
     let R = g.R.Ruleset.rules c.args.board.now in
     let l = g.met.R.Ruleset.lawful c.args.board.now in
     let d₀ = c.args.dictionary.now in
@@ -110,8 +110,8 @@ enter-returns-clause-entered g t c h =
     let e : c.seal.result ≡ Ok c.in_ok-node.node = search rules in
     ends_told R l d₀.room c.args.code (by c.enter_side.new.moves Left) (o Right) d₀.rows d₁.rows d₂.rows after.rows lefts rights o (λ k. c.enter_side-2.ensures.theirs k) (λ k. refl) c.seal.result seals c.in_ok-node.node e
 
-pub enter-returns-clause-sure : goal.enter-returns-clause-sure
-enter-returns-clause-sure g t c h =
+pub enter_anew-returns-clause-sure : goal.enter_anew-returns-clause-sure
+enter_anew-returns-clause-sure g t c h =
     let R = g.R.Ruleset.rules c.args.board.now in
     let l = g.met.R.Ruleset.lawful c.args.board.now in
     let d₀ = c.args.dictionary.now in

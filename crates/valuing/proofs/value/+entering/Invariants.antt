@@ -8,10 +8,13 @@ use Rattle.valuing.proofs.Steps.{Turn}
 use Rattle.valuing.proofs.value.+entering.Given as goal
 
 abbrev pub decreases-enter : goal.decreases-enter
-decreases-enter g l = 2 * (g.R.Ruleset.rules l.board.now).rank l.code + 1
+decreases-enter g l = 3 * (g.R.Ruleset.rules l.board.now).rank l.code + 2
+
+abbrev pub decreases-enter_anew : goal.decreases-enter_anew
+decreases-enter_anew g l = 3 * (g.R.Ruleset.rules l.board.now).rank l.code + 1
 
 abbrev pub decreases-enter_side : goal.decreases-enter_side
-decreases-enter_side g l = 2 * (g.R.Ruleset.rules l.board.now).rank l.code
+decreases-enter_side g l = 3 * (g.R.Ruleset.rules l.board.now).rank l.code
 
 -- as many successors are valued as no longer are left
 abbrev pub invariant-enter_side-loop-next : goal.invariant-enter_side-loop-next

@@ -6,7 +6,8 @@ use Rattle.hackenbush.specs.Pictures.{edges_of}
 use Rattle.hackenbush.proofs.Flags.{bit_within}
 use Rattle.hackenbush.specs.Reading.{limit_is}
 use Rattle.hackenbush.specs.Standing.{legal_found}
-use Rattle.hackenbush.proofs.Cutting.{picture_others, picture_all, cut_told}
+use Rattle.hackenbush.proofs.Cutting.{picture_others, picture_place, picture_left, picture_all, cut_told}
+use Rattle.hackenbush.proofs.Flooding.{looked_below, looked_on}
 use Rattle.hackenbush.proofs.picture.Picture.cut.Goals as goal
 
 pub returns-then-code-self : goal.returns-then-code-self
@@ -21,10 +22,18 @@ overflow_shl-edge c = bit_within c.args.code 64 c.args.place (omega arith) c.req
 pub run-after-requires : goal.run-after-requires
 run-after-requires c = picture_others c.args.self.now c.args.code c.args.place c.requires (omega arith) c.if-code-self.false
 
+pub look-along-requires : goal.look-along-requires
+look-along-requires c = record {
+  within = picture_place c.args.self.now c.args.code c.args.place c.requires (omega arith) c.if-code-self.false;
+  left = picture_left c.args.self.now c.args.code c.args.place c.requires (omega arith) c.if-code-self.false c.run-after.result.dry;
+}
+
 pub run-whole-requires : goal.run-whole-requires
-run-whole-requires c = picture_all c.args.self.now c.args.code c.args.place c.requires (omega arith) c.if-code-self.false _ _ c.run-after.ensures
+run-whole-requires c =
+    let all = picture_all c.args.self.now c.args.code c.args.place c.requires (omega arith) c.if-code-self.false _ _ c.run-after.ensures in
+    omega (arith, looked_below c.look-along.ensures, all)
 
 pub returns : goal.returns
 returns c =
     c.then_some.ensures
-    ∙ cut_told c.args.self.now c.args.code c.args.place c.requires (omega arith) c.if-code-self.false _ _ c.run-after.ensures _ _ c.run-whole.ensures
+    ∙ cut_told c.args.self.now c.args.code c.args.place c.requires (omega arith) c.if-code-self.false _ _ c.run-after.ensures _ _ (looked_on c.look-along.ensures c.run-whole.ensures)

@@ -1,7 +1,6 @@
 -- Where there is no lowest number, there is none.
-use Rattle.std.proofs.Common.{◌≡◌, ℕ, None, Option, rules}
-use Rattle.std.specs.Option.{MatchOption}
-use Rattle.nodesets.specs.Sets.{Next, has}
+use Rattle.std.proofs.Common.{◌≡◌, None, rules}
+use Rattle.nodesets.specs.Sets.{has}
 use Rattle.nodesets.proofs.Words.{mem_past}
 use Rattle.nodesets.proofs.Next.{none_next}
 use Rattle.nodesets.proofs.nodeset.NodeSet.take_lowest.Goals as goal
