@@ -27,7 +27,8 @@ square_in (Some row) x = slice_get (all row) x
 
 -- In rows of c squares, square x of row y is square y × c + x of the board.
 abbrev pub RowsRead : Type 0
-RowsRead = (c : ℕ) (rows : List (Items Square)) → even c rows ≡ true → (x y : ℕ) → x < c → slice_get (squares_of rows) (y * c + x) ≡ square_in (slice_get rows y) x
+RowsRead = (c : ℕ) (rows : List (Items Square)) → even c rows ≡ true → (x y : ℕ) → x < c
+    → slice_get (squares_of rows) (y * c + x) ≡ square_in (slice_get rows y) x
 
 abbrev pub cell_digit : Option Cell → ℕ
 cell_digit None = 0
@@ -48,10 +49,12 @@ CodesBelow = (board : Board) (p : Position) → meaning board ≡ Some p → p.c
 -- Written rows and written cells are legal positions.
 -- A written picture is one where every edge is joined to the ground (`LegalWhenJoined` of Hackenbush's Laws).
 abbrev pub RowsLegal : Type 0
-RowsLegal = (rows : Items (Items Square)) (p : Position) → meaning (domineering rows) ≡ Some p → p.rules.legal p.code ≡ true
+RowsLegal = (rows : Items (Items Square)) (p : Position) → meaning (domineering rows) ≡ Some p
+    → p.rules.legal p.code ≡ true
 
 abbrev pub CellsLegal : Type 0
-CellsLegal = (cells : Items Cell) (p : Position) → meaning (toads cells) ≡ Some p → p.rules.legal p.code ≡ true
+CellsLegal = (cells : Items Cell) (p : Position) → meaning (toads cells) ≡ Some p
+    → p.rules.legal p.code ≡ true
 
 -- Any two boards can be added: their sum keeps to the bounds of a ruleset.
 abbrev pub BoardsFit : Type 0

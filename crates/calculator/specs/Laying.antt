@@ -23,14 +23,17 @@ Permitted s place (Err f) = ((any_rules s.board).legal s.code ≡ false) × (f �
 -- set up and legal
 abbrev pub Stood : ℕ → Board → Result Setup CalculatorFault → Type 0
 Stood place b (Ok s) = (meaning b ≡ Some (position s)) × ((any_rules s.board).legal s.code ≡ true)
-Stood place b (Err f) = (place_of f ≡ place) × (((number_of f ≡ 10) × (meaning b ≡ None)) ⊎ ((number_of f ≡ 4) × (is_some (meaning b) ≡ true) × (is_legal (meaning b) ≡ false)))
+Stood place b (Err f) = (place_of f ≡ place)
+    × (((number_of f ≡ 10) × (meaning b ≡ None)) ⊎ ((number_of f ≡ 4) × (is_some (meaning b) ≡ true) × (is_legal (meaning b) ≡ false)))
 
 -- the first of two boards that is refused: sizes come first
 pub data RefusedBoth (i : ℕ) (a : Board) (j : ℕ) (b : Board) : ℕ → ℕ → Type 0 where
   first_size : meaning a ≡ None → RefusedBoth i a j b 10 i
   second_size : is_some (meaning a) ≡ true → meaning b ≡ None → RefusedBoth i a j b 10 j
-  first_position : is_some (meaning a) ≡ true → is_some (meaning b) ≡ true → is_legal (meaning a) ≡ false → RefusedBoth i a j b 4 i
-  second_position : is_some (meaning a) ≡ true → is_some (meaning b) ≡ true → is_legal (meaning a) ≡ true → is_legal (meaning b) ≡ false → RefusedBoth i a j b 4 j
+  first_position : is_some (meaning a) ≡ true → is_some (meaning b) ≡ true → is_legal (meaning a) ≡ false
+      → RefusedBoth i a j b 4 i
+  second_position : is_some (meaning a) ≡ true → is_some (meaning b) ≡ true → is_legal (meaning a) ≡ true
+      → is_legal (meaning b) ≡ false → RefusedBoth i a j b 4 j
 
 -- two boards are set up and legal, or one is refused
 abbrev pub StoodBoth : ℕ → Board → ℕ → Board → Result (Setup × Setup) CalculatorFault → Type 0
@@ -39,5 +42,6 @@ StoodBoth i a j b (Err f) = RefusedBoth i a j b (number_of f) (place_of f)
 
 -- the positions of two boards that were set up are legal
 abbrev pub BothLegal : Result (Setup × Setup) CalculatorFault → Type 0
-BothLegal (Ok s) = ((any_rules s.0.board).legal s.0.code ≡ true) × ((any_rules s.1.board).legal s.1.code ≡ true)
+BothLegal (Ok s) = ((any_rules s.0.board).legal s.0.code ≡ true)
+    × ((any_rules s.1.board).legal s.1.code ≡ true)
 BothLegal (Err f) = Unit {0}

@@ -50,22 +50,36 @@ board_place side = length (codes "(move " ++ (spell_side side ++ codes " "))
 
 -- What is written for a right line, and the rows after. Each subject is done before the next.
 pub data Replies (capacity : ℕ) (rows : Rows) : Line → List ℕ → Rows → Type 0 where
-  value_told : {s : Subject} {n : ℕ} {after : Rows} → EntersSubject capacity rows value_place s (told n) after → Replies capacity rows (value s) (short (value_text after n)) after
-  value_refused : {s : Subject} {k i : ℕ} {after : Rows} → EntersSubject capacity rows value_place s (refused_at k i) after → Replies capacity rows (value s) (fault_text k i) after
-  compared : {s u : Subject} {m n : ℕ} {between after : Rows} → EntersSubject capacity rows first_place s (told m) between → EntersSubject capacity between (second_place s) u (told n) after
+  value_told : {s : Subject} {n : ℕ} {after : Rows} → EntersSubject capacity rows value_place s (told n) after
+      → Replies capacity rows (value s) (short (value_text after n)) after
+  value_refused : {s : Subject} {k i : ℕ} {after : Rows}
+      → EntersSubject capacity rows value_place s (refused_at k i) after
+      → Replies capacity rows (value s) (fault_text k i) after
+  compared : {s u : Subject} {m n : ℕ} {between after : Rows}
+      → EntersSubject capacity rows first_place s (told m) between
+      → EntersSubject capacity between (second_place s) u (told n) after
       → Replies capacity rows (comparison s u) (sign (compare (node after m) (node after n))) after
-  first_refused : {s u : Subject} {k i : ℕ} {after : Rows} → EntersSubject capacity rows first_place s (refused_at k i) after → Replies capacity rows (comparison s u) (fault_text k i) after
-  second_refused : {s u : Subject} {m k i : ℕ} {between after : Rows} → EntersSubject capacity rows first_place s (told m) between → EntersSubject capacity between (second_place s) u (refused_at k i) after
+  first_refused : {s u : Subject} {k i : ℕ} {after : Rows}
+      → EntersSubject capacity rows first_place s (refused_at k i) after
       → Replies capacity rows (comparison s u) (fault_text k i) after
-  move_oversized : {side : Side} {b : Board} → meaning b ≡ None → Replies capacity rows (first_move side b) (fault_text 10 (board_place side)) rows
-  move_illegal : {side : Side} {b : Board} {p : Position} → meaning b ≡ Some p → p.rules.legal p.code ≡ false → Replies capacity rows (first_move side b) (fault_text 4 (board_place side)) rows
-  move_told : {side : Side} {b : Board} {p : Position} {w : Option ℕ} {after : Rows} {es : List Entry} → meaning b ≡ Some p → FirstMoves p.rules capacity rows side p.code (told w) after es
+  second_refused : {s u : Subject} {m k i : ℕ} {between after : Rows}
+      → EntersSubject capacity rows first_place s (told m) between
+      → EntersSubject capacity between (second_place s) u (refused_at k i) after
+      → Replies capacity rows (comparison s u) (fault_text k i) after
+  move_oversized : {side : Side} {b : Board} → meaning b ≡ None
+      → Replies capacity rows (first_move side b) (fault_text 10 (board_place side)) rows
+  move_illegal : {side : Side} {b : Board} {p : Position} → meaning b ≡ Some p → p.rules.legal p.code ≡ false
+      → Replies capacity rows (first_move side b) (fault_text 4 (board_place side)) rows
+  move_told : {side : Side} {b : Board} {p : Position} {w : Option ℕ} {after : Rows} {es : List Entry}
+      → meaning b ≡ Some p → FirstMoves p.rules capacity rows side p.code (told w) after es
       → Earliest p.rules side p.code (told w) → Replies capacity rows (first_move side b) (move_text w) after
-  move_refused : {side : Side} {b : Board} {p : Position} {k code : ℕ} {after : Rows} {es : List Entry} → meaning b ≡ Some p → FirstMoves p.rules capacity rows side p.code (refused_at k code) after es
+  move_refused : {side : Side} {b : Board} {p : Position} {k code : ℕ} {after : Rows} {es : List Entry}
+      → meaning b ≡ Some p → FirstMoves p.rules capacity rows side p.code (refused_at k code) after es
       → Replies capacity rows (first_move side b) (fault_text k (board_place side)) after
 
 -- What is written for any line, and the rows after: first a line that is too long, then a fault of the line, then what the line asks.
 pub data Answers (capacity : ℕ) (rows : Rows) (line : List ℕ) : List ℕ → Rows → Type 0 where
   long_line : 1000 < length line → Answers capacity rows line (fault_text 13 1000) rows
   faulty : {f i : ℕ} → length line ≤ 1000 → Fault line f i → Answers capacity rows line (fault_text f i) rows
-  right : {l : Line} {t : List ℕ} {after : Rows} → length line ≤ 1000 → RightLine line l → Replies capacity rows l t after → Answers capacity rows line t after
+  right : {l : Line} {t : List ℕ} {after : Rows} → length line ≤ 1000 → RightLine line l
+      → Replies capacity rows l t after → Answers capacity rows line t after

@@ -68,9 +68,13 @@ from_place i (refused_at k place) = refused_at k (i + place)
 -- A subject whose opening bracket stands at place i is entered: the number told, or a refusal by its number and place, and the rows after.
 -- Sizes come first, then whether the positions are legal, and then what valuing refuses.
 pub data EntersSubject (capacity : ℕ) (rows : Rows) (i : ℕ) (s : Subject) : Answer ℕ → Rows → Type 0 where
-  oversized : {j : ℕ} → first_oversized (boards_of i s) ≡ Some j → EntersSubject capacity rows i s (refused_at 10 j) rows
-  illegal : {j : ℕ} → first_oversized (boards_of i s) ≡ None → first_illegal (boards_of i s) ≡ Some j → EntersSubject capacity rows i s (refused_at 4 j) rows
-  valued : {p : Position} {a : Answer ℕ} {after : Rows} {es : List Entry} → first_oversized (boards_of i s) ≡ None → first_illegal (boards_of i s) ≡ None → position_of s ≡ Some p
+  oversized : {j : ℕ} → first_oversized (boards_of i s) ≡ Some j
+      → EntersSubject capacity rows i s (refused_at 10 j) rows
+  illegal : {j : ℕ} → first_oversized (boards_of i s) ≡ None → first_illegal (boards_of i s) ≡ Some j
+      → EntersSubject capacity rows i s (refused_at 4 j) rows
+  valued : {p : Position} {a : Answer ℕ} {after : Rows} {es : List Entry}
+      → first_oversized (boards_of i s) ≡ None → first_illegal (boards_of i s) ≡ None → position_of s ≡ Some p
       → Values p.rules capacity rows p.code a after es → EntersSubject capacity rows i s (at_place i a) after
-  read : {a : Answer ℕ} {after : Rows} {es : List Entry} (g : _) → s ≡ written g → Reads capacity rows (bytes g) a after es
+  read : {a : Answer ℕ} {after : Rows} {es : List Entry} (g : _) → s ≡ written g
+      → Reads capacity rows (bytes g) a after es
       → EntersSubject capacity rows i s (from_place (i + length (codes "(form ")) a) after

@@ -15,8 +15,10 @@ text_length rows n = length (bytes (node rows n))
 -- Print: the length told, and what is written at the front of a buffer with the given room. A refusal writes nothing.
 pub data Prints (rows : Rows) (n room : ℕ) : Answer ℕ → List ℕ → Type 0 where
   unknown : length rows ≤ n → Prints rows n room (refused 1) []
-  too_long : n < length rows → (room < text_length rows n) ⊎ (65535 < text_length rows n) → Prints rows n room (refused 5) []
-  written : n < length rows → text_length rows n ≤ room → text_length rows n ≤ 65535 → Prints rows n room (told (text_length rows n)) (bytes (node rows n))
+  too_long : n < length rows → (room < text_length rows n) ⊎ (65535 < text_length rows n)
+      → Prints rows n room (refused 5) []
+  written : n < length rows → text_length rows n ≤ room → text_length rows n ≤ 65535
+      → Prints rows n room (told (text_length rows n)) (bytes (node rows n))
 
 -- Compare: how the games of two nodes compare.
 pub data Compares (rows : Rows) (m n : ℕ) : Answer Comparison → Type 0 where

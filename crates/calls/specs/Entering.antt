@@ -33,8 +33,10 @@ abbrev mutual
 pub data SealsInTurn (capacity : ℕ) : Rows → List Form → Option ℕ → Rows → List Entry → Type 0 where
   done : {rows : Rows} → SealsInTurn capacity rows [] None rows []
   next : {rows between after : Rows} {g : Form} {gs : List Form} {n : ℕ} {end : Option ℕ} {es : List Entry}
-      → Seals capacity rows g (told n) between → SealsInTurn capacity between gs end after es → SealsInTurn capacity rows (g ∷ gs) end after (es ++ entry n g ∷ [])
-  stop : {rows : Rows} {g : Form} {gs : List Form} {k : ℕ} → Seals capacity rows g (refused k) rows → SealsInTurn capacity rows (g ∷ gs) (Some k) rows []
+      → Seals capacity rows g (told n) between → SealsInTurn capacity between gs end after es
+      → SealsInTurn capacity rows (g ∷ gs) end after (es ++ entry n g ∷ [])
+  stop : {rows : Rows} {g : Form} {gs : List Form} {k : ℕ} → Seals capacity rows g (refused k) rows
+      → SealsInTurn capacity rows (g ∷ gs) (Some k) rows []
 
 -- the place of the seal that was refused after the entries es: as many of the places, in the order of sealing, stand before it
 abbrev pub place_after : List Entry → List ℕ → ℕ
@@ -42,5 +44,8 @@ place_after es places = slice_index places (length es)
 
 -- A form is entered: all its parts are sealed in turn, and its own number is told. Each part has a place, by which a refusal names it.
 pub data Enters (capacity : ℕ) (rows : Rows) (g : Form) (places : List ℕ) : Answer ℕ → Rows → List Entry → Type 0 where
-  accepted : {after : Rows} {n : ℕ} {es : List Entry} → SealsInTurn capacity rows (parts g) None after (entry n g ∷ es) → Enters capacity rows g places (told n) after (entry n g ∷ es)
-  ended : {after : Rows} {k : ℕ} {es : List Entry} → SealsInTurn capacity rows (parts g) (Some k) after es → Enters capacity rows g places (refused_at k (place_after es places)) after es
+  accepted : {after : Rows} {n : ℕ} {es : List Entry}
+      → SealsInTurn capacity rows (parts g) None after (entry n g ∷ es)
+      → Enters capacity rows g places (told n) after (entry n g ∷ es)
+  ended : {after : Rows} {k : ℕ} {es : List Entry} → SealsInTurn capacity rows (parts g) (Some k) after es
+      → Enters capacity rows g places (refused_at k (place_after es places)) after es

@@ -19,11 +19,13 @@ use Rattle.calls.specs.Sound.{Sound}
 
 -- The options of a node are the forms of the nodes that its row names
 abbrev pub NodeReads : Type 0
-NodeReads = (rows : Rows) → Sound rows → (n : ℕ) → n < length rows → node rows n ≡ form_by (node rows) (slice_index_or rows n no_numbers)
+NodeReads = (rows : Rows) → Sound rows → (n : ℕ) → n < length rows
+    → node rows n ≡ form_by (node rows) (slice_index_or rows n no_numbers)
 
 -- Both lists of a row rise in the listing order
 abbrev pub RowsRise : Type 0
-RowsRise = (rows : Rows) → Sound rows → (s : Side) (n : ℕ) → n < length rows → Rising (each (node rows) (list_of s (slice_index_or rows n no_numbers)))
+RowsRise = (rows : Rows) → Sound rows → (s : Side) (n : ℕ) → n < length rows
+    → Rising (each (node rows) (list_of s (slice_index_or rows n no_numbers)))
 
 -- The form of two lists of nodes is node n's, as written, exactly when the lists are row n
 abbrev pub RowsAsWritten : Type 0
@@ -32,20 +34,24 @@ RowsAsWritten = (rows : Rows) → Sound rows → (n : ℕ) (l : Lists) → n < l
 
 -- The positions in the order of sealing have the parts of the game for their games, and the closing brackets of a text are as many as the parts of its form
 abbrev pub PlacesAreTheParts : Type 0
-PlacesAreTheParts = ((R : Rules) → Lawful R → (n : ℕ) → map (game R) (order R n) ≡ parts (game R n)) × ((g : Form) → length (closings 0 (bytes g)) ≡ length (parts g))
+PlacesAreTheParts = ((R : Rules) → Lawful R → (n : ℕ) → map (game R) (order R n) ≡ parts (game R n))
+    × ((g : Form) → length (closings 0 (bytes g)) ≡ length (parts g))
 
 -- Two forms that are equal in value are sealed alike
 abbrev pub SealingGoesByValue : Type 0
-SealingGoesByValue = (c : ℕ) (rows after : Rows) (a : Answer ℕ) (g h : Form) → g ≈ h → Seals c rows g a after → Seals c rows h a after
+SealingGoesByValue = (c : ℕ) (rows after : Rows) (a : Answer ℕ) (g h : Form) → g ≈ h → Seals c rows g a after
+    → Seals c rows h a after
 
 -- the numbers of the list are nodes that equal the forms, one by one
 pub data Equal (rows : Rows) : List ℕ → Forms → Type 0 where
   none_left : Equal rows [] ∅
-  equal_next : {n : ℕ} {ns : List ℕ} {g : Form} {gs : Forms} → n < length rows → node rows n ≈ g → Equal rows ns gs → Equal rows (n ∷ ns) (g & gs)
+  equal_next : {n : ℕ} {ns : List ℕ} {g : Form} {gs : Forms} → n < length rows → node rows n ≈ g
+      → Equal rows ns gs → Equal rows (n ∷ ns) (g & gs)
 
 -- It is one thing to seal a form and to seal the numbers that were told for its options
 abbrev pub SealingGoesByNumbers : Type 0
-SealingGoesByNumbers = (c : ℕ) (rows after : Rows) (a : Answer ℕ) (l : Lists) (g : Form) → Equal rows l.left (lefts g) → Equal rows l.right (rights g)
+SealingGoesByNumbers = (c : ℕ) (rows after : Rows) (a : Answer ℕ) (l : Lists) (g : Form)
+    → Equal rows l.left (lefts g) → Equal rows l.right (rights g)
     → SealsNumbers c rows l a after ↔ Seals c rows g a after
 
 -- the two lists have the same members
@@ -54,7 +60,8 @@ SameMembers ns ms = (n : ℕ) → (n among ns) ↔ (n among ms)
 
 -- Of two lists of numbers only the members matter
 abbrev pub SealingGoesByMembers : Type 0
-SealingGoesByMembers = (c : ℕ) (rows after : Rows) (a : Answer ℕ) (l k : Lists) → SameMembers l.left k.left → SameMembers l.right k.right
+SealingGoesByMembers = (c : ℕ) (rows after : Rows) (a : Answer ℕ) (l k : Lists) → SameMembers l.left k.left
+    → SameMembers l.right k.right
     → SealsNumbers c rows l a after → SealsNumbers c rows k a after
 
 -- the number of the entry is a node's, and the node equals the entry's game
@@ -79,4 +86,5 @@ RowsStaySound = Sound []
 
 -- A text nested at most 96 deep is found exactly when it is the text of a node, and then that node is told
 abbrev pub LookUpFindsTheNodes : Type 0
-LookUpFindsTheNodes = (rows : Rows) (t : List ℕ) (n : ℕ) → Shallow t → LooksUp rows t (told n) ↔ ((n < length rows) × (bytes (node rows n) ≡ t))
+LookUpFindsTheNodes = (rows : Rows) (t : List ℕ) (n : ℕ) → Shallow t
+    → LooksUp rows t (told n) ↔ ((n < length rows) × (bytes (node rows n) ≡ t))

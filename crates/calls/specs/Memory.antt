@@ -24,5 +24,7 @@ MemoryHolds = ((c : ℕ) (rows after : Rows) (g : Form) (n : ℕ) (places : List
 
 -- A position that was valued is valued again, with more rows behind, to the same number, and no row is added.
 abbrev pub ValuedAgain : Type 0
-ValuedAgain = (R : Rules) (c : ℕ) (rows after more : Rows) (code n : ℕ) (es : List Entry) → Values R c rows code (told n) after es → Sound (after ++ more)
-    → (a : Answer ℕ) (later : Rows) (fs : List Entry) → Values R c (after ++ more) code a later fs → (a ≡ told n) × (later ≡ after ++ more)
+ValuedAgain = (R : Rules) (c : ℕ) (rows after more : Rows) (code n : ℕ) (es : List Entry)
+    → Values R c rows code (told n) after es → Sound (after ++ more)
+    → (a : Answer ℕ) (later : Rows) (fs : List Entry) → Values R c (after ++ more) code a later fs
+    → (a ≡ told n) × (later ≡ after ++ more)

@@ -45,7 +45,8 @@ Stands nest q = StandsAt nest.spot (reverse nest.outside.items) q
 abbrev pub Refused : State → ℕ → ℕ → TextFault → Type 0
 Refused q b place (WrongByte i) = (i ≡ place) × ((m : Mark) → byte m ≡ b → next q m ≡ wrong)
 Refused q b place (EarlyEnd i) = ⊥
-Refused q b place (TooDeep i) = (i ≡ place) × (byte open_mark ≡ b) × (spot_of (next q open_mark) ≡ Some (Start Left)) × (length (outer_of (next q open_mark)) ≡ 96)
+Refused q b place (TooDeep i) = (i ≡ place) × (byte open_mark ≡ b)
+    × (spot_of (next q open_mark) ≡ Some (Start Left)) × (length (outer_of (next q open_mark)) ≡ 96)
 
 -- The byte at the place is a mark: the reader stands behind it where the machine does, or it is the last bracket; or it is refused.
 abbrev pub Stepped : State → Nest → ℕ → ℕ → Result (ControlFlow (Unit {0}) (Unit {0})) TextFault → Type 0

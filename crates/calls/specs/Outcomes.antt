@@ -31,27 +31,34 @@ pub record Effect : Type 0 where
   pub entries : List Entry
 
 abbrev pub SealingHasOneOutcome : Type 0
-SealingHasOneOutcome = (c : ℕ) (rows : Rows) (l : Lists) → Sound rows → ExactlyOne (λ (o : Answer ℕ × Rows). SealsNumbers c rows l o.0 o.1)
+SealingHasOneOutcome = (c : ℕ) (rows : Rows) (l : Lists) → Sound rows
+    → ExactlyOne (λ (o : Answer ℕ × Rows). SealsNumbers c rows l o.0 o.1)
 
 abbrev pub ValuingHasOneOutcome : Type 0
-ValuingHasOneOutcome = (R : Rules) (c : ℕ) (rows : Rows) (code : ℕ) → Sound rows → ExactlyOne (λ (o : Effect). Values R c rows code o.answer o.after o.entries)
+ValuingHasOneOutcome = (R : Rules) (c : ℕ) (rows : Rows) (code : ℕ) → Sound rows
+    → ExactlyOne (λ (o : Effect). Values R c rows code o.answer o.after o.entries)
 
 abbrev pub ReadingHasOneOutcome : Type 0
-ReadingHasOneOutcome = (c : ℕ) (rows : Rows) (t : List ℕ) → Sound rows → ExactlyOne (λ (o : Effect). Reads c rows t o.answer o.after o.entries)
+ReadingHasOneOutcome = (c : ℕ) (rows : Rows) (t : List ℕ) → Sound rows
+    → ExactlyOne (λ (o : Effect). Reads c rows t o.answer o.after o.entries)
 
 -- a text is a form's, nested at most 96 deep, or it has exactly one fault; and not both
 abbrev pub TextsHaveOneVerdict : Type 0
-TextsHaveOneVerdict = (t : List ℕ) → (((g : Form) × Written t g) ⊎ ExactlyOne (λ (f : ℕ × ℕ). Fault t f.0 f.1))
+TextsHaveOneVerdict = (t : List ℕ)
+    → (((g : Form) × Written t g) ⊎ ExactlyOne (λ (f : ℕ × ℕ). Fault t f.0 f.1))
     × ((g : Form) (f place : ℕ) → Written t g → ¬ Fault t f place)
 
 abbrev pub LookingUpHasOneOutcome : Type 0
-LookingUpHasOneOutcome = (rows : Rows) (t : List ℕ) → Sound rows → ExactlyOne (λ (a : Answer ℕ). LooksUp rows t a)
+LookingUpHasOneOutcome = (rows : Rows) (t : List ℕ) → Sound rows
+    → ExactlyOne (λ (a : Answer ℕ). LooksUp rows t a)
 
 abbrev pub PrintingHasOneOutcome : Type 0
-PrintingHasOneOutcome = (rows : Rows) (n room : ℕ) → ExactlyOne (λ (o : Answer ℕ × List ℕ). Prints rows n room o.0 o.1)
+PrintingHasOneOutcome = (rows : Rows) (n room : ℕ)
+    → ExactlyOne (λ (o : Answer ℕ × List ℕ). Prints rows n room o.0 o.1)
 
 abbrev pub PuttingHasOneOutcome : Type 0
-PuttingHasOneOutcome = (s : Side) (n : ℕ) (d : Lists) → ExactlyOne (λ (o : Answer (Unit {0}) × Lists). Puts s n d o.0 o.1)
+PuttingHasOneOutcome = (s : Side) (n : ℕ) (d : Lists)
+    → ExactlyOne (λ (o : Answer (Unit {0}) × Lists). Puts s n d o.0 o.1)
 
 abbrev pub ComparingHasOneOutcome : Type 0
 ComparingHasOneOutcome = (rows : Rows) (m n : ℕ) → ExactlyOne (λ (a : Answer Comparison). Compares rows m n a)

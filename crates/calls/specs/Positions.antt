@@ -24,17 +24,21 @@ order R n = order_in R (R.rank n) n
 -- Value: a code's answer, the rows after, and the entries made, newest first. Its game is entered, and a refused seal names the position's code.
 pub data Values (R : Rules) (capacity : ℕ) (rows : Rows) (code : ℕ) : Answer ℕ → Rows → List Entry → Type 0 where
   illegal : R.legal code ≡ false → Values R capacity rows code (refused 4) rows []
-  legal : {a : Answer ℕ} {after : Rows} {es : List Entry} → R.legal code ≡ true → Enters capacity rows (game R code) (order R code) a after es → Values R capacity rows code a after es
+  legal : {a : Answer ℕ} {after : Rows} {es : List Entry} → R.legal code ≡ true
+      → Enters capacity rows (game R code) (order R code) a after es → Values R capacity rows code a after es
 
 -- the index of a successor from which the mover, now second, wins; or none, where there is none
 pub data Winning (R : Rules) (s : Side) (code : ℕ) : Option ℕ → Type 0 where
-  index : (i : ℕ) → i < length (R.moves s code) → mover_wins R s (slice_index (R.moves s code) i) ≡ true → Winning R s code (Some i)
+  index : (i : ℕ) → i < length (R.moves s code) → mover_wins R s (slice_index (R.moves s code) i) ≡ true
+      → Winning R s code (Some i)
   nowhere : AllByRecursion (λ m. mover_wins R s m ≡ false) (R.moves s code) → Winning R s code None
 
 -- First move: all successors of the mover's side are valued in order, and then a winning one is told.
 pub data FirstMoves (R : Rules) (capacity : ℕ) (rows : Rows) (s : Side) (code : ℕ) : Answer (Option ℕ) → Rows → List Entry → Type 0 where
   illegal : R.legal code ≡ false → FirstMoves R capacity rows s code (refused 4) rows []
-  valued : {w : Option ℕ} {after : Rows} {es : List Entry} → R.legal code ≡ true → SealsInTurn capacity rows (parts_of_all (each (game R) (R.moves s code))) None after es
+  valued : {w : Option ℕ} {after : Rows} {es : List Entry} → R.legal code ≡ true
+      → SealsInTurn capacity rows (parts_of_all (each (game R) (R.moves s code))) None after es
       → Winning R s code w → FirstMoves R capacity rows s code (told w) after es
-  ended : {k : ℕ} {after : Rows} {es : List Entry} → R.legal code ≡ true → SealsInTurn capacity rows (parts_of_all (each (game R) (R.moves s code))) (Some k) after es
+  ended : {k : ℕ} {after : Rows} {es : List Entry} → R.legal code ≡ true
+      → SealsInTurn capacity rows (parts_of_all (each (game R) (R.moves s code))) (Some k) after es
       → FirstMoves R capacity rows s code (refused_at k (place_after es (flat_map (order R) (R.moves s code)))) after es

@@ -27,24 +27,31 @@ NumbersTellGames = (c : ℕ) (p : Past) (e f : Entry) → Reached c p → e amon
 
 -- Two dictionaries print one text for one entry of each exactly when no starter of their difference can win
 abbrev pub TextsTellGames : Type 0
-TextsTellGames = (c d : ℕ) (p q : Past) (e f : Entry) → Reached c p → Reached d q → e among p.entries → f among q.entries
-    → (room room' m n : ℕ) (t u : List ℕ) → Prints p.rows e.number room (told m) t → Prints q.rows f.number room' (told n) u
+TextsTellGames = (c d : ℕ) (p q : Past) (e f : Entry) → Reached c p → Reached d q → e among p.entries
+    → f among q.entries
+    → (room room' m n : ℕ) (t u : List ℕ) → Prints p.rows e.number room (told m) t
+    → Prints q.rows f.number room' (told n) u
     → (t ≡ u) ↔ NoStarterWins e.game f.game
 
 -- What is printed for an entry is the text of its game's canonical form
 abbrev pub TextsAreCanonical : Type 0
 TextsAreCanonical = (c : ℕ) (p : Past) (e : Entry) → Reached c p → e among p.entries
-    → (room m : ℕ) (t : List ℕ) → Prints p.rows e.number room (told m) t → (h : Form) → CanonicalFormOf e.game h → t ≡ bytes h
+    → (room m : ℕ) (t : List ℕ) → Prints p.rows e.number room (told m) t → (h : Form)
+    → CanonicalFormOf e.game h → t ≡ bytes h
 
 -- The row of an entry's number is the canonical form of its game
 abbrev pub EntriesAreCanonical : Type 0
-EntriesAreCanonical = (c : ℕ) (p : Past) (e : Entry) → Reached c p → e among p.entries → CanonicalFormOf e.game (node p.rows e.number)
+EntriesAreCanonical = (c : ℕ) (p : Past) (e : Entry) → Reached c p → e among p.entries
+    → CanonicalFormOf e.game (node p.rows e.number)
 
 -- A call that tells a number leaves an entry with it: of the position's game, of the form as written, of the draft's game
 pub record ToldNumbersAreEntries : Type 0 where
-  pub value : (R : Rules) (c : ℕ) (rows after : Rows) (code n : ℕ) (es : List Entry) → Values R c rows code (told n) after es → entry n (game R code) among es
-  pub read : (c : ℕ) (rows after : Rows) (t : List ℕ) (g : Form) (n : ℕ) (es : List Entry) → Written t g → Reads c rows t (told n) after es → entry n g among es
-  pub seal : (p : Past) (i slips n : ℕ) (after : Rows) → entry n (draft_game p i) among (sealed p i slips (told n) after).entries
+  pub value : (R : Rules) (c : ℕ) (rows after : Rows) (code n : ℕ) (es : List Entry)
+      → Values R c rows code (told n) after es → entry n (game R code) among es
+  pub read : (c : ℕ) (rows after : Rows) (t : List ℕ) (g : Form) (n : ℕ) (es : List Entry) → Written t g
+      → Reads c rows t (told n) after es → entry n g among es
+  pub seal : (p : Past) (i slips n : ℕ) (after : Rows)
+      → entry n (draft_game p i) among (sealed p i slips (told n) after).entries
 
 -- Reading a printed text, nested at most 96 deep, tells the printed number and leaves the rows: it can be read so, and not otherwise
 abbrev pub PrintedReadsBack : Type 0
@@ -54,5 +61,7 @@ PrintedReadsBack = (c : ℕ) (p : Past) (w : Printed) → Reached c p → w amon
 
 -- A position that was valued is valued again, after any more calls, to the same number, and no row is added
 abbrev pub ValuedStays : Type 0
-ValuedStays = (c : ℕ) (p q : Past) (R : Rules) → Lawful R → Reached c p → (code n : ℕ) (after : Rows) (es : List Entry) → Values R c p.rows code (told n) after es
-    → Calls c (grown p after es) q → (a : Answer ℕ) (later : Rows) (fs : List Entry) → Values R c q.rows code a later fs → (a ≡ told n) × (later ≡ q.rows)
+ValuedStays = (c : ℕ) (p q : Past) (R : Rules) → Lawful R → Reached c p
+    → (code n : ℕ) (after : Rows) (es : List Entry) → Values R c p.rows code (told n) after es
+    → Calls c (grown p after es) q → (a : Answer ℕ) (later : Rows) (fs : List Entry)
+    → Values R c q.rows code a later fs → (a ≡ told n) × (later ≡ q.rows)

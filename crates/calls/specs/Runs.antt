@@ -75,17 +75,23 @@ sealed p i slips a after = holding (grown p after (made a (draft_game p i))) i n
 pub data Call (capacity : ℕ) : Past → Past → Type 0 where
   value : {p : Past} {a : Answer ℕ} {after : Rows} {es : List Entry} (R : Rules) → Lawful R → (code : ℕ)
       → Values R capacity p.rows code a after es → Call capacity p (grown p after es)
-  first_move : {p : Past} {a : Answer (Option ℕ)} {after : Rows} {es : List Entry} (R : Rules) → Lawful R → (s : Side) (code : ℕ)
+  first_move : {p : Past} {a : Answer (Option ℕ)} {after : Rows} {es : List Entry} (R : Rules) → Lawful R
+      → (s : Side) (code : ℕ)
       → FirstMoves R capacity p.rows s code a after es → Call capacity p (grown p after es)
-  read : {p : Past} {a : Answer ℕ} {after : Rows} {es : List Entry} (t : List ℕ) → Reads capacity p.rows t a after es → Call capacity p (grown p after es)
+  read : {p : Past} {a : Answer ℕ} {after : Rows} {es : List Entry} (t : List ℕ)
+      → Reads capacity p.rows t a after es → Call capacity p (grown p after es)
   open_draft : {p : Past} (i : ℕ) → Call capacity p (holding p i no_numbers (suc p.slips))
-  put_number : {p : Past} (i : ℕ) (s : Side) (n : ℕ) → 0 < p.slips → n ≤ 383 → Call capacity p (holding p i (put s n (p.drafts i)) p.slips)
+  put_number : {p : Past} (i : ℕ) (s : Side) (n : ℕ) → 0 < p.slips → n ≤ 383
+      → Call capacity p (holding p i (put s n (p.drafts i)) p.slips)
   put_refused : {p : Past} (i : ℕ) (s : Side) (n : ℕ) → 0 < p.slips → 383 < n → Call capacity p p
   abandon : {p : Past} (i slips : ℕ) → p.slips ≡ suc slips → Call capacity p (holding p i no_numbers slips)
-  seal : {p : Past} {a : Answer ℕ} {after : Rows} (i slips : ℕ) → p.slips ≡ suc slips → SealsNumbers capacity p.rows (p.drafts i) a after
+  seal : {p : Past} {a : Answer ℕ} {after : Rows} (i slips : ℕ) → p.slips ≡ suc slips
+      → SealsNumbers capacity p.rows (p.drafts i) a after
       → Call capacity p (holding (grown p after (made a (draft_game p i))) i no_numbers slips)
-  print : {p : Past} {size : ℕ} {t : List ℕ} (n room : ℕ) → Prints p.rows n room (told size) t → Call capacity p (printing p n t)
-  print_refused : {p : Past} {k : ℕ} {t : List ℕ} (n room : ℕ) → Prints p.rows n room (refused k) t → Call capacity p p
+  print : {p : Past} {size : ℕ} {t : List ℕ} (n room : ℕ) → Prints p.rows n room (told size) t
+      → Call capacity p (printing p n t)
+  print_refused : {p : Past} {k : ℕ} {t : List ℕ} (n room : ℕ) → Prints p.rows n room (refused k) t
+      → Call capacity p p
 
 -- a list of calls, each on what those before it left
 pub data Calls (capacity : ℕ) : Past → Past → Type 0 where

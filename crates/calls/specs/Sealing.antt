@@ -33,14 +33,18 @@ pub data Seals (capacity : ℕ) (rows : Rows) (g : Form) : Answer ℕ → Rows �
   -- a node that equals g is told, and nothing is added
   found : (n : ℕ) → n < length rows → node rows n ≈ g → Seals capacity rows g (told n) rows
   -- else the row whose form is the canonical form of g is appended
-  added : New rows g → (r : Lists) → Below (length rows) r → CanonicalFormOf g (form_by (node rows) r) → Narrow (form_by (node rows) r) → length rows < capacity
+  added : New rows g → (r : Lists) → Below (length rows) r → CanonicalFormOf g (form_by (node rows) r)
+      → Narrow (form_by (node rows) r) → length rows < capacity
       → Seals capacity rows g (told (length rows)) (rows ++ r ∷ [])
   -- unless it is too wide, or the store is full
-  too_wide : New rows g → (h : Form) → CanonicalFormOf g h → ¬ Narrow h → Seals capacity rows g (refused 2) rows
-  no_place : New rows g → (h : Form) → CanonicalFormOf g h → Narrow h → capacity ≤ length rows → Seals capacity rows g (refused 3) rows
+  too_wide : New rows g → (h : Form) → CanonicalFormOf g h → ¬ Narrow h
+      → Seals capacity rows g (refused 2) rows
+  no_place : New rows g → (h : Form) → CanonicalFormOf g h → Narrow h → capacity ≤ length rows
+      → Seals capacity rows g (refused 3) rows
 
 -- Two sets of numbers are sealed: the form whose options are those nodes' forms is sealed, unless a number is not a node's.
 -- (The sets are given as lists: neither order nor repeats matter, `SealingGoesByMembers` in Laws.)
 pub data SealsNumbers (capacity : ℕ) (rows : Rows) (d : Lists) : Answer ℕ → Rows → Type 0 where
   unknown : ¬ Below (length rows) d → SealsNumbers capacity rows d (refused 1) rows
-  known : {a : Answer ℕ} {after : Rows} → Below (length rows) d → Seals capacity rows (form_by (node rows) d) a after → SealsNumbers capacity rows d a after
+  known : {a : Answer ℕ} {after : Rows} → Below (length rows) d
+      → Seals capacity rows (form_by (node rows) d) a after → SealsNumbers capacity rows d a after

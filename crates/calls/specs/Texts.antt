@@ -29,11 +29,13 @@ GoesOn t = (g : Form) × (rest : List ℕ) × (bytes g ≡ t ++ rest)
 -- The fault of a text, and its place: all before the place is in order.
 pub data Fault (t : List ℕ) : ℕ → ℕ → Type 0 where
   -- a byte with which no form goes on
-  wrong_byte : (i : ℕ) → i < length t → Shallow (take i t) → GoesOn (take i t) → ¬ GoesOn (take (suc i) t) → Fault t 6 i
+  wrong_byte : (i : ℕ) → i < length t → Shallow (take i t) → GoesOn (take i t) → ¬ GoesOn (take (suc i) t)
+      → Fault t 6 i
   -- an early end
   early_end : Shallow t → GoesOn t → ((g : Form) → ¬ (bytes g ≡ t)) → Fault t 7 (length t)
   -- the 97th nested `{`
-  too_deep : (i : ℕ) → i < length t → Shallow (take i t) → GoesOn (take (suc i) t) → nesting (take (suc i) t) ≡ 97 → Fault t 8 i
+  too_deep : (i : ℕ) → i < length t → Shallow (take i t) → GoesOn (take (suc i) t)
+      → nesting (take (suc i) t) ≡ 97 → Fault t 8 i
 
 -- the places of the closing brackets, the text beginning at the given place
 abbrev pub closings : ℕ → List ℕ → List ℕ

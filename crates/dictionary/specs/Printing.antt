@@ -18,7 +18,8 @@ pub record Printed (rows : Rows) (n : ℕ) (before : List ℕ) (a : Answer ℕ) 
 
 -- Print is a call of a run, whatever the calls so far have left, so long as the rows are theirs: the text that the run notes is the front of the buffer
 abbrev pub PrintSteps : Rows → ℕ → Answer ℕ → List ℕ → Type 0
-PrintSteps rows n (told size) after = (capacity : ℕ) (p : Past) → p.rows ≡ rows → Call capacity p (printing p n (take size after))
+PrintSteps rows n (told size) after = (capacity : ℕ) (p : Past) → p.rows ≡ rows
+    → Call capacity p (printing p n (take size after))
 PrintSteps rows n (refused k) after = (capacity : ℕ) (p : Past) → p.rows ≡ rows → Call capacity p p
 PrintSteps rows n (refused_at k place) after = ⊥
 

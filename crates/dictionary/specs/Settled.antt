@@ -17,4 +17,5 @@ pub record Settled (rows : Rows) (d : Lists) (n : ℕ) : Type 0 where
 
 -- what is remembered is right: the node equals the form of the two sets
 abbrev pub Sure : Rows → Recent → Type 0
-Sure rows r = (o : Sets) (n : ℕ) → Remembers r o n → (n < 384) × ((d : Lists) → ListsOf o d → Settled rows d n)
+Sure rows r = (o : Sets) (n : ℕ) → Remembers r o n → (n < 384)
+    × ((d : Lists) → ListsOf o d → Settled rows d n)

@@ -32,18 +32,22 @@ PutSteps before s n a after = (capacity : ℕ) (p : Past) (i : ℕ) → 0 < p.sl
 
 -- Abandon spends a slip
 abbrev pub AbandonSteps : Draft → Type 0
-AbandonSteps after = (capacity : ℕ) (p : Past) (i slips : ℕ) → p.slips ≡ suc slips → Step capacity p (abandoned p i slips) i p.rows after
+AbandonSteps after = (capacity : ℕ) (p : Past) (i slips : ℕ) → p.slips ≡ suc slips
+    → Step capacity p (abandoned p i slips) i p.rows after
 
 -- Seal spends a slip
 abbrev pub SealSteps : ℕ → Rows → Draft → Answer ℕ → Rows → Draft → Type 0
-SealSteps capacity before d a after e = (p : Past) (i slips : ℕ) → p.rows ≡ before → p.slips ≡ suc slips → Holds d (p.drafts i)
+SealSteps capacity before d a after e = (p : Past) (i slips : ℕ) → p.rows ≡ before → p.slips ≡ suc slips
+    → Holds d (p.drafts i)
     → Step capacity p (sealed p i slips a after) i after e
 
 -- Value, first move and read, by what their contracts say: each is a call of a run, with just the entries that it made.
 pub record SealingCallsStep : Type 0 where
-  pub value : (R : Rules) → Lawful R → (capacity : ℕ) (rows after : Rows) (code : ℕ) (a : Answer ℕ) (v : Valued R capacity rows code a after)
+  pub value : (R : Rules) → Lawful R
+      → (capacity : ℕ) (rows after : Rows) (code : ℕ) (a : Answer ℕ) (v : Valued R capacity rows code a after)
       → (p : Past) → p.rows ≡ rows → Call capacity p (grown p after v.entries)
-  pub first_move : (R : Rules) → Lawful R → (capacity : ℕ) (rows after : Rows) (s : Side) (code : ℕ) (a : Answer (Option ℕ)) (m : Moved R capacity rows s code a after)
+  pub first_move : (R : Rules) → Lawful R
+      → (capacity : ℕ) (rows after : Rows) (s : Side) (code : ℕ) (a : Answer (Option ℕ)) (m : Moved R capacity rows s code a after)
       → (p : Past) → p.rows ≡ rows → Call capacity p (grown p after m.entries)
   pub read : (capacity : ℕ) (rows after : Rows) (t : List ℕ) (a : Answer ℕ) (r : TextRead capacity rows t a after)
       → (p : Past) → p.rows ≡ rows → Call capacity p (grown p after r.entries)

@@ -36,13 +36,16 @@ pub record DescribesBoard (place : ℕ) (part : BoardPart) (board : Board) : Typ
 
 -- what stands in a subject whose opening bracket stands at this place
 pub data DescribesContent (place : ℕ) : Content → Subject → Type 0 where
-  a_plain : (p : BoardPart) (b : Board) → DescribesBoard place p b → DescribesContent place (Plain p) (plain b)
-  a_minus : (p : BoardPart) (b : Board) → DescribesBoard (place + length (codes "(minus ")) p b → DescribesContent place (Minus p) (minus b)
+  a_plain : (p : BoardPart) (b : Board) → DescribesBoard place p b
+      → DescribesContent place (Plain p) (plain b)
+  a_minus : (p : BoardPart) (b : Board) → DescribesBoard (place + length (codes "(minus ")) p b
+      → DescribesContent place (Minus p) (minus b)
   a_sum : (p q : BoardPart) (a b : Board)
       → DescribesBoard (place + length (codes "(sum ")) p a
       → DescribesBoard (place + length (codes "(sum " ++ (spell_board a ++ codes " "))) q b
       → DescribesContent place (Sum p q) (sum a b)
-  a_form : (p : Part) (g : Game) → DescribesPart (place + length (codes "(form ")) p (bytes g) → DescribesContent place (Form p) (written g)
+  a_form : (p : Part) (g : Game) → DescribesPart (place + length (codes "(form ")) p (bytes g)
+      → DescribesContent place (Form p) (written g)
 
 pub record DescribesSubject (place : ℕ) (part : SubjectPart) (subject : Subject) : Type 0 where
   pub begins : part.place ≡ place
@@ -50,7 +53,8 @@ pub record DescribesSubject (place : ℕ) (part : SubjectPart) (subject : Subjec
 
 -- the parts of a line, each at the place where it stands
 pub data Describes : Question → Line → Type 0 where
-  a_value : (p : SubjectPart) (s : Subject) → DescribesSubject (length (codes "(value ")) p s → Describes (Value p) (value s)
+  a_value : (p : SubjectPart) (s : Subject) → DescribesSubject (length (codes "(value ")) p s
+      → Describes (Value p) (value s)
   a_comparison : (p q : SubjectPart) (s u : Subject)
       → DescribesSubject (length (codes "(compare ")) p s
       → DescribesSubject (length (codes "(compare " ++ (spell_subject s ++ codes " "))) q u

@@ -45,11 +45,13 @@ pub record Failed (before after : Reader) (s : List Symbol) (fault : TextFault) 
   pub fails : Fails before.line.now before.at s fault
 
 -- The reader has passed some bytes, behind which `rest` is to come, and P tells what it answers of them; or the line has the fault answered.
-abbrev pub Takes : {A : Type 0} → Reader → Reader → List Symbol → (A → List Symbol) → (A → List ℕ → Type 0) → Result A TextFault → Type 0
+abbrev pub Takes : {A : Type 0} → Reader → Reader → List Symbol → (A → List Symbol) → (A → List ℕ → Type 0)
+    → Result A TextFault → Type 0
 Takes before after s rest P answer = MatchResult answer (λ a. (w : List ℕ) × Passed before after s (rest a) w × P a w) (Failed before after s)
 
 -- The reader has passed a whole text of the symbols s.
-abbrev pub Reads : {A : Type 0} → Reader → Reader → List Symbol → (A → List ℕ → Type 0) → Result A TextFault → Type 0
+abbrev pub Reads : {A : Type 0} → Reader → Reader → List Symbol → (A → List ℕ → Type 0) → Result A TextFault
+    → Type 0
 Reads before after s P answer = Takes before after s (λ _. []) P answer
 
 -- The reader has passed this byte, with which alone a symbol begins; or the line has the fault answered.
@@ -67,9 +69,11 @@ abbrev pub ClosedRead : {A : Type 0} → (ℕ → A → List ℕ → Type 0) →
 ClosedRead P i a w = (u : List ℕ) × (w ≡ u ++ codes ")") × P i a u
 
 -- two pieces, a blank between them, and the closing bracket
-abbrev pub PairRead : {A B : Type 0} → (ℕ → A → List ℕ → Type 0) → (ℕ → B → List ℕ → Type 0) → ℕ → A × B → List ℕ → Type 0
+abbrev pub PairRead : {A B : Type 0} → (ℕ → A → List ℕ → Type 0) → (ℕ → B → List ℕ → Type 0) → ℕ → A × B
+    → List ℕ → Type 0
 PairRead P Q i both w =
-    (u : List ℕ) × (v : List ℕ) × (w ≡ u ++ (codes " " ++ (v ++ codes ")"))) × P i both.0 u × Q (i + length (u ++ codes " ")) both.1 v
+    (u : List ℕ) × (v : List ℕ) × (w ≡ u ++ (codes " " ++ (v ++ codes ")"))) × P i both.0 u
+    × Q (i + length (u ++ codes " ")) both.1 v
 
 -- a side
 abbrev pub SideRead : ℕ → Side → List ℕ → Type 0
@@ -84,18 +88,21 @@ abbrev pub BoardRead : ℕ → BoardPart → List ℕ → Type 0
 BoardRead i part w = (b : Board) × (spell_board b ≡ w) × DescribesBoard i part b
 
 abbrev pub BoardRest : ℕ → Kind → ℕ → BoardPart → List ℕ → Type 0
-BoardRest place kind i part w = (b : Board) × (spell_board b ≡ 40 ∷ (kind_word kind ++ w)) × (i ≡ place + length (40 ∷ kind_word kind) → DescribesBoard place part b)
+BoardRest place kind i part w = (b : Board) × (spell_board b ≡ 40 ∷ (kind_word kind ++ w))
+    × (i ≡ place + length (40 ∷ kind_word kind) → DescribesBoard place part b)
 
 -- a subject, and the rest of one
 abbrev pub SubjectRead : ℕ → SubjectPart → List ℕ → Type 0
 SubjectRead i part w = (s : Subject) × (spell_subject s ≡ w) × DescribesSubject i part s
 
 abbrev pub ContentRest : ℕ → Heading → ℕ → Content → List ℕ → Type 0
-ContentRest place heading i content w = (s : Subject) × (spell_subject s ≡ 40 ∷ (heading_word heading ++ w)) × (i ≡ place + length (40 ∷ heading_word heading) → DescribesContent place content s)
+ContentRest place heading i content w = (s : Subject) × (spell_subject s ≡ 40 ∷ (heading_word heading ++ w))
+    × (i ≡ place + length (40 ∷ heading_word heading) → DescribesContent place content s)
 
 -- a line, and the rest of one
 abbrev pub QuestionRead : ℕ → Question → List ℕ → Type 0
 QuestionRead i question w = (l : Line) × (spell l ≡ w) × (i ≡ 0 → Describes question l)
 
 abbrev pub QuestionRest : Ask → ℕ → Question → List ℕ → Type 0
-QuestionRest ask i question w = (l : Line) × (spell l ≡ 40 ∷ (ask_word ask ++ w)) × (i ≡ length (40 ∷ ask_word ask) → Describes question l)
+QuestionRest ask i question w = (l : Line) × (spell l ≡ 40 ∷ (ask_word ask ++ w))
+    × (i ≡ length (40 ∷ ask_word ask) → Describes question l)

@@ -12,10 +12,12 @@ use Rattle.lines.specs.Machine.{Symbol, next, depth}
 abbrev pub Refused : List Symbol → ℕ → ℕ → TextFault → Type 0
 Refused s byte place (WrongByte i) = (i ≡ place) × (next s byte ≡ none)
 Refused s byte place (EarlyEnd i) = ⊥
-Refused s byte place (TooDeep i) = (i ≡ place) × ((s' : List Symbol) × (next s byte ≡ some s') × (depth s' ≡ 97))
+Refused s byte place (TooDeep i) = (i ≡ place)
+    × ((s' : List Symbol) × (next s byte ≡ some s') × (depth s' ≡ 97))
 
 -- The byte leads on, to the symbols that are then to come; or it is the last one, and nothing is to come; or it is refused.
-abbrev pub Stepped : ℕ → List Symbol → List Symbol → ℕ → ℕ → Result (ControlFlow (Unit {0}) (Unit {0})) TextFault → Type 0
+abbrev pub Stepped : ℕ → List Symbol → List Symbol → ℕ → ℕ
+    → Result (ControlFlow (Unit {0}) (Unit {0})) TextFault → Type 0
 Stepped last s on byte place answer =
     MatchResult answer
     (λ flow. MatchControlFlow flow (λ _. next s byte ≡ some on) (λ _. (next s byte ≡ some []) × (byte ≡ last)))

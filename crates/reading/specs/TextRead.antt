@@ -16,8 +16,10 @@ pub record TextRead (capacity : ℕ) (rows : Rows) (t : List ℕ) (a : Answer �
 
 -- Read is a call of a run, whatever the calls so far have left, so long as the rows are theirs: the run gains just the entries that are made.
 abbrev pub ReadSteps : ℕ → Rows → List ℕ → Answer ℕ → Rows → Type 0
-ReadSteps capacity rows t a after = (p : Past) → p.rows ≡ rows → (es : List Entry) × Reads capacity rows t a after es × Call capacity p (grown p after es)
+ReadSteps capacity rows t a after = (p : Past) → p.rows ≡ rows → (es : List Entry)
+    × Reads capacity rows t a after es × Call capacity p (grown p after es)
 
 -- the text of a node, nested at most 96 deep, is read as that node, and no row is added
 abbrev pub ReadsBack : Rows → List ℕ → Result ℕ ReadFault → Rows → Type 0
-ReadsBack rows t r after = (n : ℕ) → n < length rows → bytes (node rows n) ≡ t → Shallow t → (r ≡ Ok n) × (after ≡ rows)
+ReadsBack rows t r after = (n : ℕ) → n < length rows → bytes (node rows n) ≡ t → Shallow t → (r ≡ Ok n)
+    × (after ≡ rows)

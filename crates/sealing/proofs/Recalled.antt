@@ -55,3 +55,17 @@ noted r after p node i h is o n m = elim (eqb_tells m.place i) [
         number = m.number;
       })
 ]
+
+-- and that pair is remembered
+pub stands_noted : (r after : Recent) (p : Pair) (node i : ℕ) → i < length (vec_items r.entries) → vec_items after.entries ≡ set (vec_items r.entries) i (Some (record { moves = p; node = node }))
+    → Remembers after (by p) node
+stands_noted r after p node i h is =
+    let long : length (vec_items after.entries) ≡ length (vec_items r.entries) = ap length is ∙ length-set (vec_items r.entries) i _ in
+    record {
+      entry = record { moves = p; node = node };
+      place = i;
+      inside = omega (arith, h, long, after.entries.ok.0);
+      stands = ap (λ es. get_or es i None) is ∙ get_or-set_same (vec_items r.entries) i _ None h;
+      sets = λ s k. refl;
+      number = refl;
+    }

@@ -25,5 +25,6 @@ pub record SoFar (R : Rules) (c : ℕ) (a : Rows) (ms : List ℕ) (p : ℕ → B
 -- all successors of the side have been valued, or those before one that was refused
 pub data Turned (R : Rules) (c : ℕ) (a : Rows) (s : Side) (code : ℕ) (q : ℕ → Bool) (b : Rows) : Result (Unit {0}) ValueFault → Type 0 where
   all : SoFar R c a (R.moves s code) q b → Turned R c a s code q b (Ok tt)
-  stopped : {f : ValueFault} (i m : ℕ) (p : ℕ → Bool) (d : Rows) → SoFar R c a (take i (R.moves s code)) p d → Some m ≡ slice_get (R.moves s code) i → Entered R c d m (refusal f) b
+  stopped : {f : ValueFault} (i m : ℕ) (p : ℕ → Bool) (d : Rows) → SoFar R c a (take i (R.moves s code)) p d
+      → Some m ≡ slice_get (R.moves s code) i → Entered R c d m (refusal f) b
       → Turned R c a s code q b (Err f)

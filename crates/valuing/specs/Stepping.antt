@@ -11,8 +11,10 @@ use Rattle.calls.specs.Runs.{Past, Call, grown}
 
 -- the value of a code
 abbrev pub ValueSteps : Rules → ℕ → Rows → ℕ → Answer ℕ → Rows → Type 0
-ValueSteps R capacity rows code a after = (p : Past) → p.rows ≡ rows → (es : List Entry) × Values R capacity rows code a after es × Call capacity p (grown p after es)
+ValueSteps R capacity rows code a after = (p : Past) → p.rows ≡ rows → (es : List Entry)
+    × Values R capacity rows code a after es × Call capacity p (grown p after es)
 
 -- a first move of a side
 abbrev pub FirstMoveSteps : Rules → ℕ → Rows → Side → ℕ → Answer (Option ℕ) → Rows → Type 0
-FirstMoveSteps R capacity rows s code a after = (p : Past) → p.rows ≡ rows → (es : List Entry) × FirstMoves R capacity rows s code a after es × Call capacity p (grown p after es)
+FirstMoveSteps R capacity rows s code a after = (p : Past) → p.rows ≡ rows → (es : List Entry)
+    × FirstMoves R capacity rows s code a after es × Call capacity p (grown p after es)

@@ -13,4 +13,5 @@ Sure R rows holds = (code n : ℕ) → holds code n → Remembered rows (game R 
 -- A memory that was lent for a call is given back: as it was where the code is not legal, and else with nothing but what may be told again.
 pub data GivenBack {M : Type 0} (holds : M → ℕ → ℕ → Type 0) (R : Rules) (code : ℕ) (before : M) (rows : Rows) : M → Type 0 where
   untouched : R.legal code ≡ false → GivenBack holds R code before rows before
-  renewed : {after : M} → R.legal code ≡ true → Sure R rows (holds after) → GivenBack holds R code before rows after
+  renewed : {after : M} → R.legal code ≡ true → Sure R rows (holds after)
+      → GivenBack holds R code before rows after

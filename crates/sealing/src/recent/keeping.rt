@@ -41,7 +41,8 @@ impl Recent {
 
     // The node is noted with the pair; what stood at its place is forgotten.
     pub fn note(&mut self, moves: &Pair, node: u16)
-        ensures { (o : Sets) (n : ℕ) → Remembers self.new o n → (Same (by moves.now) o × (n ≡ node))
+        ensures noted { Remembers self.new (by moves.now) node }
+        ensures others { (o : Sets) (n : ℕ) → Remembers self.new o n → (Same (by moves.now) o × (n ≡ node))
             ⊎ Remembers self.old o n }
     {
         let place = place(moves);

@@ -21,4 +21,4 @@ invariant_of-self g c =
     let rows = c.args.self.now.rows in
     let seals : (l : Lists) → ListsOf (by c.args.moves.now) l → SealsNumbers room rows l (told c.in_ok-node.node) (g.S.Store.rows c.self-2.inside.store) =
     λ l lists. subst (λ h. SealsNumbers room rows l (told c.in_ok-node.node) h.rows) (sym c.self-2.view_is) (c.in_ok-node.ensures.seals l lists) in
-    (c.self-2.invariant.0, sure_noted c.self-2.invariant.1 c.in_ok-node.ensures.small (λ l lists. seals_settled (seals l lists)) c.note.ensures)
+    (c.self-2.invariant.0, sure_noted c.self-2.invariant.1 c.in_ok-node.ensures.small (λ l lists. seals_settled (seals l lists)) c.note.ensures.others)
