@@ -9,11 +9,11 @@ use demos::shown::{Demo, Shown, over_both};
 use games::bounds::MOST_NODES;
 use std::fs;
 
-// The sessions: NAME.in has the lines, and NAME.out the answers.
-// Those of `bounds` (each size at its bound and beyond) and of `full` (a dictionary filled to its
-// last row, and what is refused and still answered then) were worked out by hand.
-// `answers` has answers of 4,095 and 4,096 bytes and what would have 4,097,
-// lines of 1,000 bytes and of none, 16 and 17 options, and 96 and 97 brackets.
+// The sessions: NAME.in has the lines, and NAME.out the answers. Those of `bounds` (each size at its
+// bound and beyond) and of `full` (a dictionary filled to its last row, and what is refused and still
+// answered then) were worked out by hand, those of `answers` by a program that knows the rules alone:
+// answers of 4,095 and 4,096 bytes and what would have 4,097, lines of 1,000 bytes and of none,
+// 16 and 17 options, and 96 and 97 brackets.
 const SESSIONS: [&'static str; 9] = [
     "worked", "valid", "mixed", "faults", "edge", "big", "bounds", "full", "answers",
 ];
