@@ -19,4 +19,5 @@ pub mod Placing
 pub mod Kept
 pub mod Sealing
 pub mod Counted
+pub mod Writing
 pub mod Asking

@@ -1,5 +1,5 @@
 // The listing: how sets of nodes compare by it, and the nodes of a set in its order.
-ghost use Rattle.std.specs.Prelude.{◌≡◌, ◌≤◌, not, length, filter};
+ghost use Rattle.std.specs.Prelude.{◌≡◌, ◌≤◌, not, ◌++◌, length, take, drop, filter};
 ghost use Rattle.std.specs.Option.{SomeIff, option_map};
 ghost use Rattle.std.specs.declared.cmp.Ordering.TheVariants.{Equal};
 ghost use Rattle.nodesets.specs.Pairs.{by};
@@ -76,4 +76,23 @@ pub fn few_listed<const MOST: usize>(listing: &[u16], set: &NodeSet) -> Option<A
         }
     }
     Some(nodes)
+}
+
+// Writes the nodes of the listing that are in the set, as many as fit, to the front of the buffer;
+// answers how many there are.
+pub fn write_listed(listing: &[u16], set: &NodeSet, buffer: &mut [u16]) -> usize
+    ensures number { result ≡ length (filter (has set.now) listing.now) }
+    ensures written { buffer.new ≡ take (length buffer.old) (filter (has set.now) listing.now)
+        ++ drop result buffer.old }
+{
+    let mut n: usize = 0;
+    for node in listing {
+        if set.contains(usize::from(*node)) {
+            if n < buffer.len() {
+                buffer[n] = *node;
+            }
+            n += 1;
+        }
+    }
+    n
 }

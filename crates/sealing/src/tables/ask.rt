@@ -1,6 +1,6 @@
 // What the tables answer: how many nodes there are, how two compare,
 // and what two sets of them seal to.
-ghost use Rattle.std.specs.Prelude.{◌≡◌, ◌≤◌, ◌&&◌, length, Decides, nat_lt};
+ghost use Rattle.std.specs.Prelude.{◌≡◌, ◌≤◌, ◌&&◌, ◌++◌, length, take, drop, Decides, nat_lt};
 ghost use Rattle.std.specs.Option.{SomeIff, option_map};
 ghost use Rattle.games.specs.Numbered.{Lists};
 ghost use Rattle.games.specs.Tests.{as_good};
@@ -9,7 +9,7 @@ ghost use Rattle.nodesets.specs.Sets.{has};
 ghost use Rattle.sealing.specs.Seals.{CanonicalRow, Narrow, SealsTo, Sound, count, listed, node_of, row_of};
 
 use super::Tables;
-use crate::order::{count_listed, few_listed};
+use crate::order::{count_listed, few_listed, write_listed};
 use crate::seal::{SealFault, Sealed};
 use arrayvec::ArrayVec;
 use games::bounds::MOST_OPTIONS;
@@ -41,6 +41,16 @@ impl Tables {
             (length (listed self.now (has set.now)) ≤ 16) (listed self.now (has set.now)) }
     {
         few_listed(&self.listing, set)
+    }
+
+    // Writes the nodes of the set in listing order, as many as fit, to the front of the buffer;
+    // answers how many there are.
+    pub fn list(&self, set: &NodeSet, buffer: &mut [u16]) -> usize
+        ensures number { result ≡ length (listed self.now (has set.now)) }
+        ensures written { buffer.new ≡ take (length buffer.old) (listed self.now (has set.now))
+            ++ drop result buffer.old }
+    {
+        write_listed(&self.listing, set, buffer)
     }
 
     // Whether no set of the pair has more than 16 nodes.
