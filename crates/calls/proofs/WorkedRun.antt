@@ -1,4 +1,5 @@
--- A list of calls worked through: a position valued, a first move told, a text read, a draft abandoned and then sealed, a node printed, and two refusals between.
+-- A list of calls worked through: a position valued, a first move told, a text read, a draft abandoned and then sealed, a node printed, and two refusals between;
+-- and a shorter list, with no first move and no draft abandoned.
 -- Assumes nothing.
 use Rattle.std.proofs.Common.{◌≡◌, ℕ, zero, suc, ◌<◌, ◌≤◌, Bool, true, false, cond, eqb, List, [], ◌∷◌, length, take, Some, refl, arith}
 use Rattle.std.specs.List.{AllByRecursion}
@@ -19,7 +20,7 @@ use Rattle.calls.specs.Texts.{times, Shallow}
 use Rattle.calls.specs.Reading.{Reads}
 use Rattle.calls.specs.Asking.{Prints}
 use Rattle.calls.specs.Runs.{Past, new, grown, holding, printing, put, draft_game, Call, none_yet, one_more, Reached}
-use Rattle.calls.specs.WorkedRun.{counter, row_of_1, row_of_2, WorkedRun}
+use Rattle.calls.specs.WorkedRun.{counter, row_of_1, row_of_2, ShorterRun, WorkedRun}
 
 -- the rows, as they grow
 abbrev upto_0 : Rows
@@ -205,3 +206,33 @@ reached = one_more (one_more (one_more (one_more (one_more (one_more (one_more (
 
 pub worked_run : WorkedRun
 worked_run = (after_print, reached, refl, refl, refl)
+
+-- what each call of the shorter list leaves, from the text on: what is before it is the same
+abbrev shorter_read : Past
+shorter_read = grown after_refusal upto_2 (entry 2 wide ∷ entry 1 𝟏 ∷ entry 0 𝟎 ∷ entry 0 𝟎 ∷ [])
+
+abbrev shorter_open : Past
+shorter_open = holding shorter_read 0 no_numbers 1
+
+abbrev shorter_put : Past
+shorter_put = holding shorter_open 0 (put Left 1 no_numbers) 1
+
+abbrev shorter_seal : Past
+shorter_seal = holding (grown shorter_put upto_2 (entry 2 (draft_game shorter_put 0) ∷ [])) 0 no_numbers 0
+
+abbrev shorter_print : Past
+shorter_print = printing shorter_seal 2 (bytes (form (𝟏 & ∅) ∅))
+
+shorter_reached : Reached 3 shorter_print
+shorter_reached = one_more (one_more (one_more (one_more (one_more (one_more (one_more (one_more none_yet
+    (Call.value counter counter_lawful 1 valued))
+    (Call.value counter counter_lawful 7 refused_value))
+    (Call.read (bytes wide) text_read))
+    (Call.open_draft 0))
+    (Call.put_number 0 Left 1 (omega arith) (omega arith)))
+    (Call.put_refused 0 Left 384 (omega arith) (omega arith)))
+    (Call.seal 0 0 refl sealed))
+    (Call.print 2 16 print_2)
+
+pub shorter_run : ShorterRun
+shorter_run = (shorter_print, shorter_reached, refl, refl, refl)

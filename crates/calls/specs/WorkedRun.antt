@@ -45,3 +45,11 @@ abbrev pub WorkedRun : Type 0
 WorkedRun = (p : Past) × Reached 3 p × (p.rows ≡ no_numbers ∷ row_of_1 ∷ row_of_2 ∷ [])
     × (p.entries ≡ entry 2 (form (𝟏 & ∅) ∅) ∷ entry 2 (form (𝟎 & (𝟏 & ∅)) ∅) ∷ entry 1 𝟏 ∷ entry 0 𝟎 ∷ entry 0 𝟎 ∷ entry 0 𝟎 ∷ entry 1 𝟏 ∷ entry 0 𝟎 ∷ [])
     × (p.printed ≡ record { number = 2; text = bytes (form (𝟏 & ∅) ∅) } ∷ [])
+
+-- A shorter list, which asks for no first move and abandons no draft, with a capacity of 3 too: position 1 is valued, then 7, which is refused;
+-- {0,1|} is read; a draft is opened, 1 is put on its Left and 384 refused, and it is sealed; and node 2 is printed.
+-- This leaves the same rows and the same text, and one entry of 0 fewer.
+abbrev pub ShorterRun : Type 0
+ShorterRun = (p : Past) × Reached 3 p × (p.rows ≡ no_numbers ∷ row_of_1 ∷ row_of_2 ∷ [])
+    × (p.entries ≡ entry 2 (form (𝟏 & ∅) ∅) ∷ entry 2 (form (𝟎 & (𝟏 & ∅)) ∅) ∷ entry 1 𝟏 ∷ entry 0 𝟎 ∷ entry 0 𝟎 ∷ entry 1 𝟏 ∷ entry 0 𝟎 ∷ [])
+    × (p.printed ≡ record { number = 2; text = bytes (form (𝟏 & ∅) ∅) } ∷ [])

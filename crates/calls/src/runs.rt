@@ -1,7 +1,7 @@
 // The theorems on all lists of calls, each asked for by the contract of a function:
 // these functions do nothing else.
 ghost use Rattle.calls.specs.RunLaws.{EntriesAreCanonical, NumbersTellGames, PrintedReadsBack, RowsAreSound, TextsAreCanonical, TextsTellGames, ToldNumbersAreEntries, ValuedStays};
-ghost use Rattle.calls.specs.WorkedRun.{WorkedRun};
+ghost use Rattle.calls.specs.WorkedRun.{ShorterRun, WorkedRun};
 
 pub fn numbers_tell_games()
     ensures { NumbersTellGames }
@@ -24,5 +24,6 @@ pub fn rows_are_kept()
 {}
 
 pub fn a_run_is_worked()
-    ensures { WorkedRun }
+    ensures worked { WorkedRun }
+    ensures shorter { ShorterRun }
 {}

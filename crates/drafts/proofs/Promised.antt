@@ -1,7 +1,7 @@
 -- The promise over all lists of calls.
 -- Assumes nothing.
 use Rattle.calls.proofs.RunLaws.{entries_are_canonical, told_numbers_are_entries, numbers_tell_games, texts_tell_games, texts_are_canonical, printed_reads_back, rows_are_sound, valued_stays}
-use Rattle.calls.proofs.WorkedRun.{worked_run}
+use Rattle.calls.proofs.WorkedRun.{shorter_run, worked_run}
 use Rattle.drafts.specs.Promise.{OneGameOneNumberOneText}
 
 pub promised : OneGameOneNumberOneText
@@ -15,4 +15,5 @@ promised = record {
   entered = told_numbers_are_entries;
   valued = valued_stays;
   worked = worked_run;
+  shorter = shorter_run;
 }

@@ -1,7 +1,7 @@
 -- What holds of all lists of calls, in one.
 -- Assumes nothing.
 use Rattle.calls.specs.RunLaws.{EntriesAreCanonical, ToldNumbersAreEntries, NumbersTellGames, TextsTellGames, TextsAreCanonical, PrintedReadsBack, RowsAreSound, ValuedStays}
-use Rattle.calls.specs.WorkedRun.{WorkedRun}
+use Rattle.calls.specs.WorkedRun.{ShorterRun, WorkedRun}
 
 -- Whatever list of value, first move, read, open, put, seal, abandon and print calls, refused ones among them, takes a new dictionary to where it is,
 -- over any store, with any rulesets, several in one list: an entry's game has one number and one text, and a text that was printed reads back.
@@ -25,3 +25,5 @@ pub record OneGameOneNumberOneText : Type 0 where
   pub valued : ValuedStays
   -- and none of this is empty: a list of calls is worked through
   pub worked : WorkedRun
+  -- a shorter list too, which asks for no first move and abandons no draft
+  pub shorter : ShorterRun
