@@ -223,6 +223,16 @@ module _ (n c : ℕ) (s : Side) (i : ℕ) (few : n ≤ 12) (ok : legal n c ≡ t
       let e = word_moves in
       omega arith
 
+  -- the same of any number that is the piece's digit
+  pub digit_leaves : (d : ℕ) → d ≡ digit_of (piece s) → d * 2 ^ (2 * i) % 18446744073709551616 ≤ c
+  digit_leaves d is = rw is word_leaves
+
+  pub digit_moves : (d : ℕ) → d ≡ digit_of (piece s) → c - d * 2 ^ (2 * i) % 18446744073709551616 + d * 2 ^ (2 * target n c s i) % 18446744073709551616 ≡ after n c s i
+  digit_moves d is = rw is word_moves
+
+  pub digit_fits : (d : ℕ) → d ≡ digit_of (piece s) → c - d * 2 ^ (2 * i) % 18446744073709551616 + d * 2 ^ (2 * target n c s i) % 18446744073709551616 < 2 ^ 24
+  digit_fits d is = rw is word_fits
+
 -- what a move does to the cells
 pub move_reads : (n : ℕ) → MoveReads n
 move_reads n c s i h =
