@@ -136,6 +136,19 @@ impl Keyword for Kind {
     ghost leads = { kind_leads };
 
     fn from_letter(letter: u8) -> Option<Kind> {
+        Kind::from_letter(letter)
+    }
+
+    fn word(self) -> &'static [u8] {
+        Kind::word(self)
+    }
+}
+
+// The words of boards by name, since other crates do not see the trait.
+impl Kind {
+    pub fn from_letter(letter: u8) -> Option<Kind>
+        ensures { Begins board_word kind_word letter result }
+    {
         match letter {
             b'd' => Some(Kind::Domineering),
             b't' => Some(Kind::Toads),
@@ -144,16 +157,16 @@ impl Keyword for Kind {
         }
     }
 
-    fn word(self) -> &'static [u8] {
+    pub fn word(self) -> &'static [u8]
+        ensures { result.now ≡ kind_word self }
+    {
         match self {
             Kind::Domineering => b"domineering ",
             Kind::Toads => b"toads ",
             Kind::Hackenbush => b"hackenbush ",
         }
     }
-}
 
-impl Kind {
     // Where a reader stands before the items.
     pub fn first_spot(self) -> Spot
         ensures { result ≡ kind_spot self }
