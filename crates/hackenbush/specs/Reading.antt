@@ -1,10 +1,10 @@
 -- Reading the edges of a picture.
-use Rattle.std.specs.Prelude.{◌≡◌, ℕ, zero, suc, ◌-◌, ◌*◌, ◌%◌, ◌^◌, ◌<◌, ◌≤◌, Bool, true, false, ◌&&◌, List, [], ◌∷◌, length, Some, nat_le, nat_lt, slice_index_or, refl}
+use Rattle.std.specs.Prelude.{◌≡◌, ℕ, zero, suc, ◌-◌, ◌*◌, ◌%◌, ◌^◌, ◌<◌, ◌≤◌, Bool, true, false, ◌&&◌, List, [], ◌∷◌, length, get_or, Some, nat_le, nat_lt, slice_index_or, refl}
 use Rattle.std.proofs.Common.{sym, ◌∙◌, ap, arith}
 use Rattle.std.specs.Int.Bits.{bit_and}
 use Rattle.std.specs.List.{slice_get}
 use Rattle.std.proofs.lemmas.Nat.{and_le_r, pow_pos}
-use Rattle.std.proofs.lemmas.List.{length-take-le}
+use Rattle.std.proofs.lemmas.List.{length-take-le, get_or-take}
 use Rattle.std.proofs.lemmas.Option.{slice_get-get_or}
 use Rattle.std.proofs.lemmas.Bool.{and_parts, ltb-true, leb-true}
 use Rattle.bits.specs.Bits.{bit}
@@ -44,6 +44,13 @@ module _ (p : Picture) where
 
   pub ends_near : (i : ℕ) → i < p.count → near_edge (slice_index_or (edges_of p) i blank) ≡ true
   ends_near i h = near_at (edges_of p) i (slice_index_or (edges_of p) i blank) (and_parts (nat_le 1 (length (edges_of p)) && nat_le (length (edges_of p)) 24) _ p.sized).1 (edge_at i h)
+
+  -- the same of the array that the edges are the first items of
+  pub edge_in_array : (i : ℕ) → i < p.count → slice_get (edges_of p) i ≡ Some (slice_index_or p.edges i blank)
+  edge_in_array i h = edge_at i h ∙ ap Some (get_or-take p.count p.edges i blank h)
+
+  pub ends_in_array : (i : ℕ) → i < p.count → ((get_or p.edges i blank).from < 16) × ((get_or p.edges i blank).to < 16)
+  ends_in_array i h = edge_low (slice_index_or p.edges i blank) (near_at (edges_of p) i (slice_index_or p.edges i blank) (and_parts (nat_le 1 (length (edges_of p)) && nat_le (length (edges_of p)) 24) _ p.sized).1 (edge_in_array i h))
 
   -- the code cut down to the edges that there are
   low : (1 * 2 ^ p.count) % 18446744073709551616 ≡ 2 ^ p.count
