@@ -1,6 +1,6 @@
 -- What a table holds.
 -- Assumes nothing.
-use Rattle.std.specs.Prelude.{◌≡◌, ℕ, ◌⊎◌, List, Some, None, Option, slice_index_or}
+use Rattle.std.specs.Prelude.{◌≡◌, ℕ, suc, ◌⊎◌, List, Some, None, Option, slice_index, slice_index_or}
 use Rattle.memory.specs.declared.slot.Slot.{Slot}
 
 -- a place that is free, and one with a code and its number
@@ -14,9 +14,9 @@ holding code n = record { code = code; number = Some n }
 abbrev pub Among : List Slot → ℕ → ℕ → Type 0
 Among slots code n = (i : ℕ) × (slice_index_or slots i free ≡ holding code n)
 
--- the place of the code has the number
-abbrev pub At : List (Option ℕ) → ℕ → ℕ → Type 0
-At numbers code n = slice_index_or numbers code None ≡ Some n
+-- the place of the code has one more than the number
+abbrev pub At : List ℕ → ℕ → ℕ → Type 0
+At numbers code n = slice_index numbers code ≡ suc n
 
 -- a number that is told is one that is held
 abbrev pub Recalls : (ℕ → Type 0) → Option ℕ → Type 0

@@ -5,10 +5,11 @@ ghost use Rattle.memory.specs.Tables.{NothingNoted};
 use crate::notes::Notes;
 use std::alloc::Global;
 
-// The number of a code at the code's place, where one is known.
+// One more than the number of a code, at the code's place; 0 where none is known. So a place takes
+// 2 bytes, and the largest number is not kept.
 #[derive(Drop)]
 pub struct Direct {
-    numbers: Vec<Option<u16>>,
+    numbers: Vec<u16>,
 }
 
 impl Direct {
@@ -17,7 +18,7 @@ impl Direct {
         ensures { NothingNoted result }
     {
         let mut numbers = Vec::new(heap);
-        numbers.resize(limit, None).ok()?;
+        numbers.resize(limit, 0).ok()?;
         Some(Direct { numbers })
     }
 }
@@ -26,12 +27,13 @@ impl Notes for Direct {
     ghost holds = { λ d. At d.numbers.items };
 
     fn recall(&self, code: u64) -> Option<u16> {
-        *self.numbers.get(code as usize)?
+        self.numbers.get(code as usize)?.checked_sub(1)
     }
 
     fn note(&mut self, code: u64, number: u16) {
-        if let Some(place) = self.numbers.get_mut(code as usize) {
-            *place = Some(number);
+        let place = self.numbers.get_mut(code as usize);
+        if let (Some(place), Some(more)) = (place, number.checked_add(1)) {
+            *place = more;
         }
     }
 }

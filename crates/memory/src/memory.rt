@@ -15,10 +15,10 @@ const FIRST: usize = 256;
 const MOST: usize = 16_777_216;
 
 // A table with a place for every code serves, where there are at most so many codes for each place
-// of a hashed one: at 4 bytes a code it is up to 4 times as large as that, and faster.
+// of a hashed one: at 2 bytes a code it is up to twice as large as that, and faster.
 const SPREAD: usize = 16;
 
-// The most codes that may have a place each: 64 MiB.
+// The most codes that may have a place each: 32 MiB.
 const MOST_CODES: usize = 16_777_216;
 
 // Numbers by codes. It takes more memory as it needs it; where there is none, it forgets.
