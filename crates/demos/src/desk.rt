@@ -1,6 +1,6 @@
 // Positions of every board, a minus and sums, valued in one dictionary.
 use crate::samples::stalk;
-use crate::shown::{Shown, begin};
+use crate::shown::{Shown, begin_under};
 use crate::told::{tell, text};
 use dictionary::dictionary::Dictionary;
 use domineering::board::Board;
@@ -37,8 +37,9 @@ pub fn show_values<S: Shown, M: Recall + Drop>(
     memory: M,
     detail: Detail,
 ) -> anyhow::Result<()> {
-    let dictionary = begin::<S>(rt.alloc(), MOST_NODES)?;
-    println!(rt; "over {}", S::NAME)?;
+    let Some(dictionary) = begin_under::<S>(rt, MOST_NODES, "over ", "")? else {
+        return Ok(());
+    };
     let mut desk = Desk {
         dictionary,
         memory,

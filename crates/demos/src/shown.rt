@@ -1,4 +1,5 @@
 // What is shown over each of the two stores.
+ghost use Rattle.std.specs.Prelude.{◌≡◌, [], IfOk, IfSome};
 ghost use Rattle.stores.specs.Rows.{Made};
 
 use dictionary::dictionary::Dictionary;
@@ -52,9 +53,19 @@ pub fn begin<S: Shown>(heap: Global, capacity: usize) -> Result<Dictionary<S>, M
     Ok(Dictionary::begin(heap, store)?)
 }
 
-// The same, over which store and how large a one is told.
-pub fn begin_told<S: Shown>(rt: &HostRuntime, rows: usize) -> anyhow::Result<Dictionary<S>> {
-    let dictionary = begin::<S>(rt.alloc(), rows)?;
-    println!(rt; "over {} of {rows} rows", S::NAME)?;
-    Ok(dictionary)
+// The same under a heading, which has the store's name between two texts.
+// Where there is no memory for the store there is neither, and a program shows what comes next.
+pub fn begin_under<S: Shown>(
+    rt: &HostRuntime,
+    rows: usize,
+    before: &str,
+    behind: &str,
+) -> anyhow::Result<Option<Dictionary<S>>>
+    ensures { IfOk result (λ begun. IfSome begun (λ d. (d.rows ≡ []) × (d.room ≡ rows))) }
+{
+    let Ok(store) = S::make(rt.alloc(), rows) else {
+        return Ok(None);
+    };
+    println!(rt; "{before}{}{behind}", S::NAME)?;
+    Ok(Some(Dictionary::begin(rt.alloc(), store)?))
 }

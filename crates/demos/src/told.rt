@@ -63,10 +63,14 @@ pub fn print_into<S: Store>(
     room: usize,
 ) -> anyhow::Result<()> {
     let mut buffer = [b'.'; BUFFER];
-    print!(rt; "  node {node} into {room} bytes: ")?;
     match dictionary.print(node, &mut buffer[..room.min(BUFFER)]) {
-        Ok(length) => println!(rt; "wrote {length}")?,
-        Err(fault) => println!(rt; "refused with {}", fault.number())?,
+        Ok(length) => println!(rt; "  node {node} into {room} bytes: wrote {length}")?,
+        Err(fault) => {
+            println!(rt;
+                "  node {node} into {room} bytes: refused with {}",
+                fault.number()
+            )?
+        }
     }
     println!(rt; "  {}", std::str::from_utf8(&buffer)?)?;
     Ok(())

@@ -47,7 +47,9 @@ fn main(rt: HostRuntime) -> anyhow::Result<()> {
 
 // The sample forms, each with its text, and how they compare.
 fn forms<S: Shown>(rt: &HostRuntime) -> anyhow::Result<()> {
-    let dictionary = seal_forms::<S>(rt, Detail::OutcomeAndText)?;
+    let Some(dictionary) = seal_forms::<S>(rt, Detail::OutcomeAndText)? else {
+        return Ok(());
+    };
     // the text of 1 has 6 bytes, and node 6 is unknown
     for (node, room) in [(1, 6), (1, 5), (6, 0)] {
         print_into(rt, &dictionary, node, room)?;
@@ -58,7 +60,10 @@ fn forms<S: Shown>(rt: &HostRuntime) -> anyhow::Result<()> {
 // Heaps of nim, from each of which both sides move to every smaller heap.
 // There is room for every text, but that of the heap of 9 is too long to be printed.
 fn heaps<S: Shown>(rt: &HostRuntime) -> anyhow::Result<()> {
-    let mut dictionary = begin::<S>(rt.alloc(), HEAPS)?;
+    let Ok(store) = S::make(rt.alloc(), HEAPS) else {
+        return Ok(());
+    };
+    let mut dictionary = Dictionary::begin(rt.alloc(), store)?;
     let mut smaller = Pair::default();
     for heap in 0..HEAPS {
         if let Ok(node) = dictionary.seal(&smaller) {

@@ -2,7 +2,7 @@
 // What was sealed is printed and read back, and a position whose game was drafted is valued.
 #![tactic(auto)]
 
-use demos::shown::{Demo, Shown, begin_told, over_both};
+use demos::shown::{Demo, Shown, begin_under, over_both};
 use demos::told::text;
 use dictionary::dictionary::Dictionary;
 use domineering::board::Board;
@@ -37,7 +37,9 @@ struct Drafts;
 
 impl Demo for Drafts {
     fn over<S: Shown>(&self, rt: &HostRuntime) -> anyhow::Result<()> {
-        let mut dictionary = begin_told::<S>(rt, ROWS)?;
+        let Some(mut dictionary) = begin_under::<S>(rt, ROWS, "over ", " of 4 rows")? else {
+            return Ok(());
+        };
         let mut draft = Draft::new();
         for (name, left, right) in FORMS {
             abandoned(rt, &mut draft, left)?;

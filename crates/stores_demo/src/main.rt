@@ -3,7 +3,7 @@
 
 mod script;
 
-use anyhow::Context;
+use anyhow::anyhow;
 use hashed_store::table::HashTable;
 use ordered_store::ordered::OrderedList;
 use script::script;
@@ -28,8 +28,10 @@ fn print_run(
 fn main(rt: HostRuntime) -> anyhow::Result<()> {
     let heap = rt.alloc();
     let calls = script(heap)?;
-    let mut list = OrderedList::new(heap, CAPACITY).context("the ordered list")?;
-    let mut table = HashTable::new(heap, CAPACITY).context("the table")?;
+    let mut list = OrderedList::new(heap, CAPACITY).map_err(|_| anyhow!(
+        "no memory for the ordered list"
+    ))?;
+    let mut table = HashTable::new(heap, CAPACITY).map_err(|_| anyhow!("no memory for the table"))?;
     let (first, second) = replay_both(heap, &mut list, &mut table, &calls)?;
     print_run(&rt, "ordered list", &calls, &first)?;
     print_run(&rt, "hash-consed table", &calls, &second)

@@ -1,7 +1,7 @@
 // Texts looked up in a frozen dictionary.
 use crate::shown::{show_look_up, show_read};
 use crate::spelt::{number, zeros};
-use demos::shown::{Demo, Shown, begin};
+use demos::shown::{Demo, Shown, begin_under};
 
 // The texts of four nodes, forms equal to one of them in other words, forms of no node,
 // and texts with a fault.
@@ -23,9 +23,10 @@ pub(crate) struct NoNodes;
 
 impl Demo for NoNodes {
     fn over<S: Shown>(&self, rt: &HostRuntime) -> anyhow::Result<()> {
-        let dictionary = begin::<S>(rt.alloc(), 1)?;
-        println!(rt; "looking up among no nodes, over {}", S::NAME)?;
-        show_look_up(rt, &dictionary.freeze(), "{{|}|}", b"{{|}|}")
+        match begin_under::<S>(rt, 1, "looking up among no nodes, over ", "")? {
+            Some(dictionary) => show_look_up(rt, &dictionary.freeze(), "{{|}|}", b"{{|}|}"),
+            None => Ok(()),
+        }
     }
 }
 
@@ -34,8 +35,9 @@ pub(crate) struct LookUps;
 
 impl Demo for LookUps {
     fn over<S: Shown>(&self, rt: &HostRuntime) -> anyhow::Result<()> {
-        let mut dictionary = begin::<S>(rt.alloc(), 4)?;
-        println!(rt; "looking up over {}", S::NAME)?;
+        let Some(mut dictionary) = begin_under::<S>(rt, 4, "looking up over ", "")? else {
+            return Ok(());
+        };
         for text in ["{{{|}|}|}", "{{|}|{|}}"] {
             show_read(rt, &mut dictionary, text, text.as_bytes())?;
         }

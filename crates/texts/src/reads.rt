@@ -1,7 +1,7 @@
 // Texts read into a dictionary.
 use crate::shown::{show_look_up, show_read};
 use crate::spelt::{number, switches};
-use demos::shown::{Demo, Shown, begin};
+use demos::shown::{Demo, Shown, begin_under};
 use demos::told::text;
 use games::bounds::MOST_NODES;
 
@@ -25,8 +25,9 @@ pub(crate) struct OneRow;
 
 impl Demo for OneRow {
     fn over<S: Shown>(&self, rt: &HostRuntime) -> anyhow::Result<()> {
-        let mut dictionary = begin::<S>(rt.alloc(), 1)?;
-        println!(rt; "{} of 1 row", S::NAME)?;
+        let Some(mut dictionary) = begin_under::<S>(rt, 1, "", " of 1 row")? else {
+            return Ok(());
+        };
         show_read(rt, &mut dictionary, "{{|}|}", b"{{|}|}")?;
         let frozen = dictionary.freeze();
         for text in ["{|}", "{{|}|}"] {
@@ -41,8 +42,10 @@ pub(crate) struct Reads;
 
 impl Demo for Reads {
     fn over<S: Shown>(&self, rt: &HostRuntime) -> anyhow::Result<()> {
-        let mut dictionary = begin::<S>(rt.alloc(), 4)?;
-        println!(rt; "reading into {} of 4 rows", S::NAME)?;
+        let begun = begin_under::<S>(rt, 4, "reading into ", " of 4 rows")?;
+        let Some(mut dictionary) = begun else {
+            return Ok(());
+        };
         for text in READ {
             show_read(rt, &mut dictionary, text, text.as_bytes())?;
         }
@@ -60,8 +63,10 @@ pub(crate) struct Extremes;
 
 impl Demo for Extremes {
     fn over<S: Shown>(&self, rt: &HostRuntime) -> anyhow::Result<()> {
-        let mut dictionary = begin::<S>(rt.alloc(), MOST_NODES)?;
-        println!(rt; "deep and wide forms, over {}", S::NAME)?;
+        let begun = begin_under::<S>(rt, MOST_NODES, "deep and wide forms, over ", "")?;
+        let Some(mut dictionary) = begun else {
+            return Ok(());
+        };
         for (name, depth) in [("97 deep", 97), ("96 deep", 96), ("and again", 96)] {
             show_read(rt, &mut dictionary, name, number(rt, depth)?.as_bytes())?;
         }
