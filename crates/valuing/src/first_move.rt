@@ -4,7 +4,7 @@ ghost use Rattle.games.specs.Form.{𝟎};
 ghost use Rattle.games.specs.Tests.{as_good};
 ghost use Rattle.calls.specs.Rows.{node};
 ghost use Rattle.valuing.specs.Answers.{answer_at};
-ghost use Rattle.valuing.specs.Moved.{Earliest, Moved, earlier_of, won_by};
+ghost use Rattle.valuing.specs.Moved.{Earliest, Latest, Moved, earlier_of, later_of, won_by};
 ghost use Rattle.valuing.specs.Stepping.{FirstMoveSteps};
 ghost use Rattle.valuing.specs.Sure.{GivenBack};
 
@@ -47,6 +47,13 @@ fn earlier(found: Option<usize>, index: usize, wins: bool) -> Option<usize>
     found.or(wins.then_some(index))
 }
 
+// This move if it wins, or else the one found before.
+fn later(found: Option<usize>, index: usize, wins: bool) -> Option<usize>
+    ensures { result ≡ later_of found index wins }
+{
+    wins.then_some(index).or(found)
+}
+
 // The index of the earliest first move that wins for the side, if there is one.
 // All of the side's successors are valued.
 // The memory is lent for the call, and forgets what it held.
@@ -78,7 +85,8 @@ pub fn first_move_with<S: Store, M: Recall, R: Ruleset>(
     Ok(winning)
 }
 
-// The same without a memory, for small boards.
+// The index of the last first move that wins for the side, if there is one.
+// All of the side's successors are valued, without a memory: it is for small boards.
 pub fn first_move<S: Store, R: Ruleset>(
     dictionary: &mut Dictionary<S>,
     board: &R,
@@ -89,8 +97,16 @@ pub fn first_move<S: Store, R: Ruleset>(
         code (answer_at result) dictionary.new.rows }
     ensures step { FirstMoveSteps (R.Ruleset.rules board.now) dictionary.old.room
         dictionary.old.rows side code (answer_at result) dictionary.new.rows }
-    ensures earliest { Earliest (R.Ruleset.rules board.now) side code (answer_at result) }
+    ensures latest { Latest (R.Ruleset.rules board.now) side code (answer_at result) }
     ensures room { dictionary.new.room ≡ dictionary.old.room }
 {
-    first_move_with(dictionary, &mut Nothing, board, side, code)
+    if !board.is_legal(code) {
+        return Err(ValueFault::Illegal);
+    }
+    let mut winning = None;
+    for (index, successor) in successors_of(board, side, code).enumerate() {
+        let number = enter(dictionary, &mut Nothing, board, successor)?;
+        winning = later(winning, index, wins(dictionary, side, number));
+    }
+    Ok(winning)
 }

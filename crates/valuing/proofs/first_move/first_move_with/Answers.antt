@@ -5,10 +5,11 @@ use Rattle.rulesets.specs.Remaining.{moves_left}
 use Rattle.rulesets.proofs.Positions.{left_none, left_some}
 use Rattle.calls.specs.Positions.{FirstMoves}
 use Rattle.valuing.specs.Answers.{answer_at}
-use Rattle.valuing.specs.Moved.{Earliest, Moved}
+use Rattle.valuing.specs.Moved.{Earliest, Moved, earlier_of}
 use Rattle.valuing.specs.Sure.{Sure, untouched, renewed}
 use Rattle.valuing.proofs.Noted.{sure_empty}
-use Rattle.valuing.proofs.Earliest.{broke, no_earliest, one_tried, tried, tried_earliest, tries}
+use Rattle.valuing.proofs.Earliest.{Before, best_more, no_earliest, tried_earliest}
+use Rattle.valuing.proofs.Trying.{broke, one_tried, tried, tries}
 use Rattle.valuing.proofs.Stepped.{first_move_steps}
 use Rattle.valuing.proofs.first_move.first_move_with.Goals as goal
 
@@ -29,7 +30,7 @@ loop-index-init g c =
     let all : moves_left g.R.Ruleset.rules (enumerate_source it) ≡ R.moves c.args.side c.args.code = search rules in
     rw (first, all) (record {
       left = refl;
-      trying = tries R l c.args.side (R.moves c.args.side c.args.code) d.room d.rows (Sure R d.rows (g.M.Notes.holds c.forget.new.self)) (sure_empty R _ _ c.forget.ensures);
+      trying = tries Before R l c.args.side (R.moves c.args.side c.args.code) d.room d.rows (Sure R d.rows (g.M.Notes.holds c.forget.new.self)) (sure_empty R _ _ c.forget.ensures);
     })
 
 pub returns-in_err-number : goal.returns-in_err-number
@@ -41,7 +42,7 @@ returns-in_err-number g c =
     let i = enumerate_count c.loop-index.index-iterator in
     let at = (left_some (R.moves c.args.side c.args.code) i c.in-Some.next _ (sym c.loop-index.invariant.left ∙ c.in-Some.ensures.steps.0)).0 in
     let e : c.from_residual.result ≡ Err c.in_err-number.field-0.0 = search rules in
-    let moved = broke R l c.args.side c.args.code (search rules) i c.in-Some.next c.loop-index.winning d₀.room d.room d₀.rows d.rows c.enter.new.dictionary.rows
+    let moved = broke Before R l c.args.side c.args.code (search rules) i c.in-Some.next c.loop-index.winning d₀.room d.room d₀.rows d.rows c.enter.new.dictionary.rows
     (Sure R d.rows (g.M.Notes.holds c.loop-index.memory)) c.from_residual.result c.in_err-number.field-0.0 e c.loop-index.invariant.trying at c.in_err-number.ensures.entered in
     record {
       moved = moved;
@@ -64,9 +65,10 @@ loop-index-preserved g c =
     let (at, others) = left_some ms i c.in-Some.next _ (sym c.loop-index.invariant.left ∙ step) in
     rw (counts, c.earlier-winning.ensures, is) (record {
       left = others;
-      trying = one_tried R l c.args.side ms i c.in-Some.next c.in_ok-number.number c.loop-index.winning d₀.room d.room after.room d₀.rows d.rows after.rows
+      trying = one_tried Before R l c.args.side ms i c.in-Some.next c.in_ok-number.number c.loop-index.winning d₀.room d.room after.room d₀.rows d.rows after.rows
           (Sure R d.rows (g.M.Notes.holds c.loop-index.memory)) (Sure R after.rows (g.M.Notes.holds c.enter.new.memory))
-          c.loop-index.invariant.trying at c.in_ok-number.ensures.room c.in_ok-number.ensures.sure c.in_ok-number.ensures.entered c.wins.result c.wins.ensures;
+          c.loop-index.invariant.trying at c.in_ok-number.ensures.room c.in_ok-number.ensures.sure c.in_ok-number.ensures.entered c.wins.result c.wins.ensures
+          (earlier_of c.loop-index.winning i c.wins.result) (best_more R c.args.side ms i c.loop-index.winning c.wins.result);
     })
 
 pub returns : goal.returns
@@ -77,12 +79,12 @@ returns g c =
     let d = c.loop-index.dictionary in
     let i = enumerate_count c.loop-index.index-iterator in
     let all = left_none (R.moves c.args.side c.args.code) i (sym c.loop-index.invariant.left ∙ c.in-None.ensures.steps.0.0) in
-    let moved = tried R l c.args.side c.args.code (search rules) i c.loop-index.winning d₀.room d.room d₀.rows d.rows
+    let moved = tried Before R l c.args.side c.args.code (search rules) i c.loop-index.winning d₀.room d.room d₀.rows d.rows
     (Sure R d.rows (g.M.Notes.holds c.loop-index.memory)) all c.loop-index.invariant.trying in
     record {
       moved = moved;
       step = first_move_steps R l d₀.room d₀.rows c.args.side c.args.code _ d.rows moved;
-      earliest = tried_earliest R l c.args.side c.args.code i c.loop-index.winning d₀.room d.room d₀.rows d.rows
+      earliest = tried_earliest R c.args.side c.args.code i c.loop-index.winning d₀.room d.room d₀.rows d.rows
           (Sure R d.rows (g.M.Notes.holds c.loop-index.memory)) c.loop-index.invariant.trying;
       memory = renewed (search rules) c.loop-index.invariant.trying.kept;
       room = c.loop-index.invariant.trying.room;

@@ -3,7 +3,8 @@ use Rattle.std.proofs.Common.{◌≡◌, drop}
 use Rattle.std.specs.Iterator.Adapters.{enumerate_source, enumerate_count}
 use Rattle.rulesets.specs.Remaining.{moves_left}
 use Rattle.valuing.specs.Sure.{Sure}
-use Rattle.valuing.proofs.Earliest.{Trying}
+use Rattle.valuing.proofs.Earliest.{Before}
+use Rattle.valuing.proofs.Trying.{Trying}
 use Rattle.valuing.proofs.first_move.first_move_with.Given as goal
 
 abbrev pub invariant-loop-index : goal.invariant-loop-index
@@ -15,5 +16,5 @@ invariant-loop-index g l =
     let i = enumerate_count l.index-iterator in
     record {
       left : moves_left g.R.Ruleset.rules (enumerate_source l.index-iterator) ≡ drop i ms;
-      trying : Trying R l.side ms i l.winning d₀.room d.room d₀.rows d.rows (Sure R d.rows (g.M.Notes.holds l.memory));
+      trying : Trying Before R l.side ms i l.winning d₀.room d.room d₀.rows d.rows (Sure R d.rows (g.M.Notes.holds l.memory));
     }
