@@ -14,7 +14,10 @@ impl RowList {
     pub fn same(&self, node: u16, row: &Row) -> bool
         ensures { result ≡ same_lists (row_at (rows_in self.now) node) (lists_of row.now) }
     {
-        self.rows.get(usize::from(node)).unwrap_or(&Row::default()) == row
+        match self.rows.get(usize::from(node)) {
+            Some(kept) => kept == row,
+            None => &Row::default() == row,
+        }
     }
 
     // Whether the row of `node` is earlier than another or later,
@@ -22,9 +25,9 @@ impl RowList {
     pub fn order(&self, node: u16, row: &Row) -> Ordering
         ensures { result ≡ row_order (row_at (rows_in self.now) node) (lists_of row.now) }
     {
-        self.rows
-            .get(usize::from(node))
-            .unwrap_or(&Row::default())
-            .cmp(row)
+        match self.rows.get(usize::from(node)) {
+            Some(kept) => kept.cmp(row),
+            None => Row::default().cmp(row),
+        }
     }
 }
