@@ -31,6 +31,8 @@ impl Nest {
     // Takes the byte at the place: goes on where a reader then stands,
     // or ends behind the last bracket.
     // Where it does not go on, it stands where it stood.
+    // A reader asks it at each byte, so it stands in the loops of the crates above.
+    #[inline]
     pub fn take(&mut self, byte: u8, place: usize) -> Result<ControlFlow<()>, TextFault>
         ensures steps { (q : State) → Stands self.old q → Stepped q self.new byte place result }
         ensures stays { StaysUnlessOn self.old self.new result }
