@@ -58,8 +58,10 @@ fn write<S: Store>(store: &S, node: u16, writer: &mut Writer)
     writer.put(b'}');
 }
 
-// The same for the options of a side, which commas part.
+// The same for the options of a side, which commas part. It stands within `write`, so that a node
+// costs one call, and a side without options none.
 #[cycle(writing)]
+#[inline(always)]
 fn write_options<S: Store>(store: &S, side: Side, node: u16, writer: &mut Writer)
     requires { writer.old.place + length (options_text (S.Store.rows store.now) side node)
         ≤ length writer.old.out.now }
