@@ -27,6 +27,8 @@ pub struct Memory {
     heap: Global,
     // how many codes there are, where a table may have a place for each
     codes: Option<usize>,
+    // whether the largest number was noted
+    largest: bool,
     table: Table,
 }
 
@@ -38,6 +40,7 @@ impl Memory {
         Memory {
             heap,
             codes: None,
+            largest: false,
             table: Table::Hashed(Slots::new(heap)),
         }
     }
@@ -49,19 +52,20 @@ impl Memory {
         self.codes = usize::try_from(limit)
             .ok()
             .filter(|codes| *codes <= MOST_CODES);
+        self.largest = false;
         self.table = Table::Hashed(Slots::new(self.heap));
     }
 
-    // A larger table takes over from a crowded one, if there is memory for it.
+    // A larger table takes over from a hashed one, if there is memory for it. Few notes ask for
+    // that, so it is kept apart from the rest.
+    #[cold]
+    #[inline(never)]
     fn make_room(&mut self)
         ensures { HoldsLess self.old self.new }
     {
         let Table::Hashed(slots) = &self.table else {
             return;
         };
-        if !slots.is_crowded() {
-            return;
-        }
         if let Some(table) = self.larger(slots) {
             self.table = table;
         }
@@ -85,9 +89,25 @@ impl Memory {
         if codes / SPREAD > places {
             return None;
         }
+        if self.largest {
+            return self.by_codes(slots, codes);
+        }
         let mut direct = Direct::with_places(self.heap, codes)?;
         slots.copy_into(&mut direct);
         Some(Table::Indexed(direct))
+    }
+
+    // A table with a place for every code and for every number, if its places are more and there is
+    // memory for it.
+    fn by_codes(&self, slots: &Slots, codes: usize) -> Option<Table>
+        ensures { HoldsOf slots.now result }
+    {
+        if codes <= slots.places() {
+            return None;
+        }
+        let mut wide = Slots::by_codes(self.heap, codes)?;
+        slots.copy_into(&mut wide);
+        Some(Table::Hashed(wide))
     }
 
     // A hashed table of so many places, if they are more and there is memory for it.
@@ -97,9 +117,27 @@ impl Memory {
         if places <= slots.places() {
             return None;
         }
-        let mut wide = Slots::with_places(self.heap, places)?;
+        let mut wide = slots.with_places(self.heap, places)?;
         slots.copy_into(&mut wide);
         Some(Table::Hashed(wide))
+    }
+
+    // A table with a place of 2 bytes for every code has none for the largest number. One whose
+    // places are larger takes over, if there is memory for it.
+    #[cold]
+    #[inline(never)]
+    fn ready_for_largest(&mut self)
+        ensures { HoldsLess self.old self.new }
+    {
+        self.largest = true;
+        let Table::Indexed(direct) = &self.table else {
+            return;
+        };
+        let Some(mut slots) = Slots::by_codes(self.heap, direct.places()) else {
+            return;
+        };
+        direct.copy_into(&mut slots);
+        self.table = Table::Hashed(slots);
     }
 }
 
@@ -111,7 +149,60 @@ impl Notes for Memory {
     }
 
     fn note(&mut self, code: u64, number: u16) {
-        self.make_room();
+        if number == u16::MAX {
+            self.ready_for_largest();
+        }
+        if self.table.is_crowded() {
+            self.make_room();
+        }
         self.table.note(code, number);
+    }
+}
+
+#[cfg(test)]
+mod tests {
+    use super::Memory;
+    use crate::notes::Notes;
+
+    // No clause says that a number is kept. Here a table with a place for every code serves at
+    // first, and keeps all when the largest number comes.
+    #[test]
+    fn the_largest_number_comes_late(rt: HostRuntime) {
+        let mut memory = Memory::new(rt.alloc());
+        for limit in [1, 200, 16_000] {
+            memory.forget(limit);
+            for code in 0..limit {
+                memory.note(code, 7);
+            }
+            for number in [u16::MAX, 0, u16::MAX, u16::MAX - 1] {
+                memory.note(0, number);
+                assert_eq!(rt; memory.recall(0), Some(number), "0 below {limit}");
+            }
+            for code in 1..limit {
+                assert_eq!(rt; memory.recall(code), Some(7), "{code} below {limit}");
+                memory.note(code, u16::MAX);
+            }
+            for code in 1..limit {
+                assert_eq!(rt; memory.recall(code), Some(u16::MAX), "{code} below {limit}");
+            }
+        }
+    }
+
+    // Here it comes first, so that a hashed table serves, until there are places for all codes.
+    #[test]
+    fn the_largest_number_comes_first(rt: HostRuntime) {
+        let mut memory = Memory::new(rt.alloc());
+        for (limit, codes) in [(200, 200), (16_000, 16_000), (u64::MAX, 200)] {
+            memory.forget(limit);
+            memory.note(5, u16::MAX);
+            for code in 6..codes {
+                memory.note(code, 7);
+            }
+            assert_eq!(rt; memory.recall(5), Some(u16::MAX), "5 below {limit}");
+            for code in 6..codes {
+                assert_eq!(rt; memory.recall(code), Some(7), "{code} below {limit}");
+            }
+            assert_eq!(rt; memory.recall(4), None, "4 below {limit}");
+        }
     }
 }

@@ -10,6 +10,12 @@ use std::alloc::Global;
 // How many places are tried for a code, from the one that its hash names.
 const TRIES: usize = 16;
 
+// What codes are multiplied by so that they are spread over the places, and so that each code below
+// their number has its own.
+const SPREADING: u64 = 0x9E37_79B9_7F4A_7C15;
+
+const OWN: u64 = 1 << 32;
+
 const FREE: Slot = Slot {
     code: 0,
     number: None,
@@ -19,6 +25,7 @@ const FREE: Slot = Slot {
 pub struct Slots {
     slots: Vec<Slot>,
     taken: usize,
+    factor: u64,
 }
 
 impl Slots {
@@ -29,16 +36,35 @@ impl Slots {
         Slots {
             slots: Vec::new(heap),
             taken: 0,
+            factor: SPREADING,
         }
     }
 
-    // A table with so many free places, if there is memory for it.
-    pub fn with_places(heap: Global, places: usize) -> Option<Slots>
+    // A table with free places, in which each of so many codes has its own, if there is memory for
+    // it.
+    pub fn by_codes(heap: Global, codes: usize) -> Option<Slots>
+        ensures { AllFree result }
+    {
+        Slots::free(heap, codes.checked_next_power_of_two()?, OWN)
+    }
+
+    // A table with so many free places, to be searched as this one is, if there is memory for it.
+    pub fn with_places(&self, heap: Global, places: usize) -> Option<Slots>
+        ensures { AllFree result }
+    {
+        Slots::free(heap, places, self.factor)
+    }
+
+    fn free(heap: Global, places: usize, factor: u64) -> Option<Slots>
         ensures { AllFree result }
     {
         let mut slots = Vec::new(heap);
         slots.resize(places, FREE).ok()?;
-        Some(Slots { slots, taken: 0 })
+        Some(Slots {
+            slots,
+            taken: 0,
+            factor,
+        })
     }
 
     pub fn places(&self) -> usize {
@@ -54,7 +80,7 @@ impl Slots {
     fn home(&self, code: u64) -> usize
         ensures { result < 2 ^ 32 }
     {
-        (code.wrapping_mul(0x9E37_79B9_7F4A_7C15) >> 32) as usize
+        (code.wrapping_mul(self.factor) >> 32) as usize
     }
 
     // The first place tried that is free or has the code, or else the first one tried;

@@ -12,6 +12,16 @@ pub enum Table {
     Indexed(Direct),
 }
 
+impl Table {
+    // Whether a larger table should take over.
+    pub fn is_crowded(&self) -> bool {
+        match self {
+            Table::Hashed(slots) => slots.is_crowded(),
+            Table::Indexed(_) => false,
+        }
+    }
+}
+
 impl Notes for Table {
     ghost holds = { InTable };
 
